@@ -1,6 +1,7 @@
 -- Visits of a line, on boards and on planes.
-use Rattle.pattern_core.proofs.Common.{AreClues, AreDecided, ArePlanes, ArePositive, Bool, Candidates, Column, Decision, Extent, FitsIn, IsAlive, IsBitsOf, IsBoardOf, IsClue, IsDead, IsDecided, IsDecidedBy, IsExtent, IsLawful, IsPattern, IsWithin, Layers, Layout, Line, List, Needs, Pattern, Row, RuleSystem, Taking, [], after, and-true, and_from, and_parts, and_right, any_below, any_below-here, any_below-none, any_below-some, ap, ap₂, arith, at_line, bits-of_values, cases_Bool, cases_eq, cases_lt, clue_of, common_steps, cond, count_below, count_below-none, count_below-pos, count_below-same, counts_of, div-add-mod', div-mul-add, div_below, eq-eqb, eqb, eqb-true, false, false_from_ne_true, fun_ext, get_or, has-within, has_bit, has_lost, has_place, has_place-at, has_place-here, has_runs, house_of, in_grid, inl, inr, is_dead-each, is_dead-here, is_dead-not, kept-decided, kept_in, le-ltb, length, length-line_places, line_cells, line_len, line_places, line_rules, line_rules-lawful, line_short, lines_beside, lines_of, lt-ltb, mod-mul-add, mod_below, needs_of, not, number_of, or_cases, place_in_column, place_in_row, refl, sets-bits, slice_index, strikes_at, strikes_by_fillings, subst, suc, sym, true, true≢false, used, visited-after, zero, ℕ, ◌%◌, ◌&&◌, ◌*◌, ◌+◌, ◌-◌, ◌/◌, ◌<◌, ◌||◌, ◌∙◌, ◌∷◌, ◌≡◌, ◌≤◌}
+use Rattle.pattern_core.proofs.Common.{AreClues, ArePlanes, ArePositive, Bool, Candidates, Column, Decision, Extent, FitsIn, IsAlive, IsBitsOf, IsBoardOf, IsClue, IsDead, IsDecided, IsDecidedBy, IsExtent, IsLawful, IsPattern, IsWithin, Layers, Layout, Line, List, Needs, Pattern, Row, RuleSystem, Taking, [], after, and-true, and_from, and_parts, and_right, any_below, any_below-here, any_below-none, any_below-some, ap, ap₂, arith, at_line, bits-of_values, cases_Bool, cases_eq, cases_lt, clue_of, common_steps, cond, count_below, count_below-none, count_below-pos, count_below-same, counts_of, div-add-mod', div-mul-add, div_below, eq-eqb, eqb, eqb-true, false, false_from_ne_true, fun_ext, get_or, has-within, has_bit, has_lost, has_place, has_place-at, has_place-here, has_runs, house_of, in_grid, inl, inr, is_dead-each, is_dead-here, is_dead-not, kept-decided, kept_in, le-ltb, length, length-line_places, line_cells, line_len, line_places, line_rules, line_rules-lawful, line_short, lines_beside, lines_of, lt-ltb, mod-mul-add, mod_below, needs_of, not, number_of, or_cases, place_in_column, place_in_row, refl, sets-bits, sets_by, slice_index, strikes_at, strikes_by_fillings, subst, suc, sym, true, true≢false, used, visited-after, zero, ℕ, ◌%◌, ◌&&◌, ◌*◌, ◌+◌, ◌-◌, ◌/◌, ◌<◌, ◌||◌, ◌∙◌, ◌∷◌, ◌≡◌, ◌≤◌}
 use Rattle.grid_core.specs.Candidates.{IsWithin as HasCells}
+unfoldable use Rattle.grid_core.specs.Board.{has as on_board}
 unfoldable use Rattle.grid_core.specs.Planes.{covers, crosses, has, without_taking}
 use Rattle.grid_core.proofs.PlaneSteps.{has-at}
 use Rattle.engine_core.proofs.HouseLemmas.{kept-after}
@@ -8,6 +9,7 @@ use Rattle.engine_core.specs.Keeping.{AreSetsOf}
 use Rattle.engine_core.specs.PositionLaws.{within_of}
 use Rattle.engine_core.specs.PlaneNotes.{IsSuited}
 use Rattle.engine_core.proofs.JudgeLemmas.{scope_le-longest}
+use Rattle.pattern_core.proofs.LineWords.{length-sets, set-small, sets-bit, word_of}
 
 -- What is taken from a line of planes, and what its house strikes.
 -- ---- the cells of a line
@@ -68,9 +70,9 @@ two-counted f = omega arith
 
 -- ---- what is kept of a line
 module _ (pat : Pattern) (p : Layers) (line : Line) (same : p.size ≡ pat.size) (lt : number_of line < lines_beside pat.size line)
-    (some : 0 < pat.size.w) (within : HasCells (pat.size.w * pat.size.h) 2 (has p)) {white black white' black' : ℕ}
+    (some : 0 < pat.size.w) (within : HasCells (pat.size.w * pat.size.h) 2 (has p)) (white black white' black' : ℕ)
     (white_is : (k : ℕ) → has_bit white k ≡ at_line p line 0 k) (black_is : (k : ℕ) → has_bit black k ≡ at_line p line 1 k)
-    (d : AreDecided (clue_of pat (house_of pat.size line)) (line_len pat.size line) white black white' black') where
+    (d : IsDecidedBy (clue_of pat (house_of pat.size line)) (sets_by white black (line_len pat.size line)) (sets_by white' black' (line_len pat.size line))) where
   abbrev size : Extent
   size = pat.size
 
@@ -92,70 +94,65 @@ module _ (pat : Pattern) (p : Layers) (line : Line) (same : p.size ≡ pat.size)
   reads : {k : ℕ} (v : ℕ) → k < line_len size line → v < 2 → K (cell_of size line k) v ≡ at_line p line v k
   reads {k} v less low = rw (← same) (read-at p line k v (rw (← same) at lt) (rw (← same) at less) low)
 
-  -- the bits of the sets that were read, and of those that are kept
-  set-bit : {k : ℕ} {v : ℕ} → k < line_len size line → v < 2 → has_bit (slice_index d.sets k) v ≡ K (cell_of size line k) v
-  set-bit {k} {v} less low = elim (cases_eq v 0) [
-    | inl e ↦ rw e (d.sets_are.white_is k (omega (arith, d.long)) ∙ white_is k ∙ sym (reads 0 less (omega arith)))
-    | inr ne ↦ (
-        let e : v ≡ 1 = omega arith in
-        rw e (d.sets_are.black_is k (omega (arith, d.long)) ∙ black_is k ∙ sym (reads 1 less (omega arith))))
+  -- the sets that were read, and those that are kept
+  abbrev sets : List ℕ
+  sets = sets_by white black (line_len size line)
+
+  abbrev kept : List ℕ
+  kept = sets_by white' black' (line_len size line)
+
+  set-bit : {k v : ℕ} → k < line_len size line → v < 2 → has_bit (slice_index sets k) v ≡ K (cell_of size line k) v
+  set-bit {k} {v} less low = sets-bit white black _ k v less low ∙ elim (cases_eq v 0) [
+    | inl e ↦ rw e (white_is k ∙ sym (reads 0 less (omega arith)))
+    | inr ne ↦ (let e : v ≡ 1 = omega arith in rw e (black_is k ∙ sym (reads 1 less (omega arith))))
   ]
 
   -- the board after a visit goes by the sets
-  pub after-is : kept_in places d.kept (length places) K ≡ after (line_rules pat) house K
+  pub after-is : kept_in places kept (length places) K ≡ after (line_rules pat) house K
   after-is =
-      let bits : (k : ℕ) → k < length places → IsBitsOf (K (slice_index places k)) 2 (slice_index d.sets k) =
+      let bits : (k : ℕ) → k < length places → IsBitsOf (K (slice_index places k)) 2 (slice_index sets k) =
       λ k less. let lk : k < line_len size line = omega (arith, long) in
-      record { small = d.small k (omega (arith, d.long)); same = λ v low. rw (at lk) (set-bit lk low) } in
-      let sized : length d.sets ≡ length places = d.long ∙ sym long in
-      visited-after (line_rules pat) house (strikes_by_fillings (has_runs (clue_of pat house))) K _ d.sets d.kept (λ L c v. refl) within sized bits
-      (sets-bits 2 places K d.sets sized bits) d.decided refl
+      record { small = set-small white black k lk; same = λ v low. rw (at lk) (set-bit lk low) } in
+      let sized : length sets ≡ length places = length-sets white black _ ∙ sym long in
+      visited-after (line_rules pat) house (strikes_by_fillings (has_runs (clue_of pat house))) K _ sets kept (λ L c v. refl) within sized bits
+      (sets-bits 2 places K sets sized bits) d refl
 
-  -- where a value is kept, as words
-  abbrev kept_by : ℕ → ℕ
-  kept_by v = cond (eqb v 0) white' black'
-
-  kept-bit : {k : ℕ} {v : ℕ} → k < line_len size line → v < 2 → has_bit (slice_index d.kept k) v ≡ has_bit (kept_by v) k
-  kept-bit {k} {v} less low =
-      let lk : k < length d.kept = omega (arith, d.long, d.decided.as_many) in
-      elim (cases_eq v 0) [
-        | inl e ↦ rw e (d.kept_are.white_is k lk)
-        | inr ne ↦ (let e : v ≡ 1 = omega arith in rw e (d.kept_are.black_is k lk))
-      ]
+  kept-bit : {k v : ℕ} → k < line_len size line → v < 2 → has_bit (slice_index kept k) v ≡ has_bit (word_of white' black' v) k
+  kept-bit {k} {v} = sets-bit white' black' _ k v
 
   -- what is lost of a value in the line
-  struck-at : (v bits c : ℕ) → v < 2 → ((k : ℕ) → has_bit bits k ≡ (at_line p line v k && not (has_bit (kept_by v) k))) → K c v ≡ true
-      → crosses line bits (c / size.w) (c % size.w) ≡ any_below (λ k. eqb (slice_index places k) c && not (has_bit (slice_index d.kept k) v)) (length places)
-  struck-at v bits c low is on = elim (cases_Bool (any_below (λ k. eqb (slice_index places k) c && not (has_bit (slice_index d.kept k) v)) (length places))) [
+  struck-at : (v bits c : ℕ) → v < 2 → ((k : ℕ) → has_bit bits k ≡ (at_line p line v k && not (has_bit (word_of white' black' v) k))) → K c v ≡ true
+      → crosses line bits (c / size.w) (c % size.w) ≡ any_below (λ k. eqb (slice_index places k) c && not (has_bit (slice_index kept k) v)) (length places)
+  struck-at v bits c low is on = elim (cases_Bool (any_below (λ k. eqb (slice_index places k) c && not (has_bit (slice_index kept k) v)) (length places))) [
     | inl one ↦ (
-        let w = any_below-some (λ k. eqb (slice_index places k) c && not (has_bit (slice_index d.kept k) v)) (length places) one in
+        let w = any_below-some (λ k. eqb (slice_index places k) c && not (has_bit (slice_index kept k) v)) (length places) one in
         let u = and_parts _ _ w.2 in let lk : w.0 < line_len size line = omega (arith, long, w.1) in
         let here : cell_of size line w.0 ≡ c = sym (at lk) ∙ eqb-true _ _ u.0 in
         let there : at_line p line v w.0 ≡ true = sym (reads v lk low) ∙ rw (← here) at on in
-        let gone : not (has_bit (kept_by v) w.0) ≡ true = ap not (sym (kept-bit lk low)) ∙ u.1 in
+        let gone : not (has_bit (word_of white' black' v) w.0) ≡ true = ap not (sym (kept-bit lk low)) ∙ u.1 in
         rw one (rw (← here) (crossed-at size line bits w.0 lt lk ∙ is w.0 ∙ and_from _ _ there gone)))
     | inr none ↦ rw none (false_from_ne_true _ (λ crossed.
         let w = crossed-some size line bits c some (within c v on).0 crossed in let lk = w.1 in
-        let u = and_parts (at_line p line v w.0) (not (has_bit (kept_by v) w.0)) (sym (is w.0) ∙ w.2) in
-        let off = any_below-none (λ k. eqb (slice_index places k) c && not (has_bit (slice_index d.kept k) v)) (length places) none w.0 (omega (arith, long)) in
+        let u = and_parts (at_line p line v w.0) (not (has_bit (word_of white' black' v) w.0)) (sym (is w.0) ∙ w.2) in
+        let off = any_below-none (λ k. eqb (slice_index places k) c && not (has_bit (slice_index kept k) v)) (length places) none w.0 (omega (arith, long)) in
         true≢false (sym (and_from _ _ (eq-eqb _ _ (at lk ∙ w.3)) (ap not (kept-bit lk low) ∙ u.1)) ∙ off)))
   ]
 
-  kept-had : {k : ℕ} (v : ℕ) → k < line_len size line → v < 2 → has_bit (kept_by v) k ≡ true → K (cell_of size line k) v ≡ true
+  kept-had : {k : ℕ} (v : ℕ) → k < line_len size line → v < 2 → has_bit (word_of white' black' v) k ≡ true → K (cell_of size line k) v ≡ true
   kept-had {k} v less low on =
-      sym (set-bit less low) ∙ (and_parts _ _ (sym (d.decided.bits k v (omega (arith, d.long)) low) ∙ (kept-bit less low ∙ on))).0
+      sym (set-bit less low) ∙ (and_parts _ _ (sym (d.bits k v (omega (arith, length-sets white black (line_len size line))) low) ∙ (kept-bit less low ∙ on))).0
 
   -- a cell of the line of which no value is kept
   pub kept-dead : (k : ℕ) → k < line_len size line → has_bit white' k ≡ false → has_bit black' k ≡ false → IsDead (line_rules pat) (after (line_rules pat) house K)
   unfolding kept_in
   kept-dead k less none0 none1 =
       let lk : k < length places = omega (arith, long) in let c = slice_index places k in
-      let off : (v : ℕ) → v < 2 → kept_in places d.kept (length places) K c v ≡ false = λ v low.
-      let gone : has_bit (slice_index d.kept k) v ≡ false = kept-bit less low ∙ elim (cases_eq v 0) [
+      let off : (v : ℕ) → v < 2 → kept_in places kept (length places) K c v ≡ false = λ v low.
+      let gone : has_bit (slice_index kept k) v ≡ false = kept-bit less low ∙ elim (cases_eq v 0) [
         | inl e ↦ rw e none0
         | inr ne ↦ (let e : v ≡ 1 = omega arith in rw e none1)
       ] in
-      and_right (K c v) _ (ap not (any_below-here (λ j. eqb (slice_index places j) c && not (has_bit (slice_index d.kept j) v)) (length places) k lk
+      and_right (K c v) _ (ap not (any_below-here (λ j. eqb (slice_index places j) c && not (has_bit (slice_index kept j) v)) (length places) k lk
       (and_from _ _ (eq-eqb c c refl) (ap not gone)))) in
       rw (← after-is) (is_dead-here (size.w * size.h) 2 _ c (in_grid size (house-in size line lt) (has_place-here places k lk)) (count_below-none _ 2 off))
 
@@ -165,7 +162,7 @@ module _ (pat : Pattern) (p : Layers) (line : Line) (same : p.size ≡ pat.size)
     abbrev left : Candidates
     left = without_taking size.w (without_taking size.w K (record { line = line; value = 0; bits = lw })) (record { line = line; value = 1; bits = lb })
 
-    each : (c v : ℕ) → left c v ≡ kept_in places d.kept (length places) K c v
+    each : (c v : ℕ) → left c v ≡ kept_in places kept (length places) K c v
     unfolding without_taking covers kept_in
     each c v = elim (cases_Bool (K c v)) [
       | inl on ↦ (
@@ -182,8 +179,8 @@ module _ (pat : Pattern) (p : Layers) (line : Line) (same : p.size ≡ pat.size)
     stays : (c v : ℕ) → has_place places c ≡ false → left c v ≡ K c v
     unfolding kept_in
     stays c v off =
-        let none = false_from_ne_true (any_below (λ k. eqb (slice_index places k) c && not (has_bit (slice_index d.kept k) v)) (length places)) (λ on.
-        let w = any_below-some (λ k. eqb (slice_index places k) c && not (has_bit (slice_index d.kept k) v)) (length places) on in
+        let none = false_from_ne_true (any_below (λ k. eqb (slice_index places k) c && not (has_bit (slice_index kept k) v)) (length places)) (λ on.
+        let w = any_below-some (λ k. eqb (slice_index places k) c && not (has_bit (slice_index kept k) v)) (length places) on in
         let e = eqb-true (slice_index places w.0) c (and_parts _ _ w.2).0 in
         true≢false (sym (rw e at (has_place-here places w.0 w.1)) ∙ off)) in
         each c v ∙ rw none (and-true (K c v))
@@ -265,8 +262,8 @@ decided-after {p} laws {h} decides {K} {sets} {kept} lt is within are decided =
 
 pub line_visited : (p : Pattern) {line : ℕ} {b : Layout} {size : Extent} {K : Candidates} {clue places sets kept : List ℕ} → IsExtent p.size
     → line < lines_of p.size → IsBoardOf (line_rules p) b → size ≡ p.size → clue ≡ clue_of p line → places ≡ line_places size line → length sets ≡ length places
-    → ((k : ℕ) → k < length places → IsBitsOf (has b (slice_index places k)) b.values (slice_index sets k))
-    → IsDecidedBy clue sets kept → K ≡ kept_in places kept (length places) (has b) → K ≡ after (line_rules p) line (has b)
+    → ((k : ℕ) → k < length places → IsBitsOf (on_board b (slice_index places k)) b.values (slice_index sets k))
+    → IsDecidedBy clue sets kept → K ≡ kept_in places kept (length places) (on_board b) → K ≡ after (line_rules p) line (on_board b)
 line_visited p {line} {b} {places = places} {sets = sets} extent lt is sized same written long bits decided left =
     let at : places ≡ line_places p.size line = rw sized at written in
     (rw at at left)

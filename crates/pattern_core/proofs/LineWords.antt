@@ -1,10 +1,11 @@
 -- Words as sets of places, and the cells of a line as words.
-use Rattle.pattern_core.proofs.Common.{AreDecided, ArePositive, AreSetsBy, AreShown, Bool, List, Track, [], and-false, and-true, ap, arith, cases_Bool, cases_eq, cell_is, common_steps, div-add-mod', eq-eqb, eqb, false, from_bool, fun_ext, get_or, goes_on, has_bit, inl, inr, le-ltb, led, length, lt-ltb, ltb, mod-lt, ne_eqb, one_on, or-false, refl, set_at, sets_by, sets_of, some_leads, spelled, stays, suc, sym, track_of, true, zero, ℕ, ◌%◌, ◌&&◌, ◌*◌, ◌+◌, ◌-◌, ◌/◌, ◌<◌, ◌||◌, ◌∙◌, ◌∷◌, ◌≡◌, ◌≤◌}
+use Rattle.pattern_core.proofs.Common.{AreRowsKept, Bool, List, Track, [], and-false, and-true, ap, arith, cases_Bool, cases_eq, cell_is, common_steps, cond, div-add-mod', eq-eqb, eqb, false, from_bool, fun_ext, get_or, goes_on, has_bit, inl, inr, le-ltb, led, length, lt-ltb, ltb, mod-lt, ne_eqb, one_on, or-false, refl, set_at, sets_by, sets_of, slice_index, some_leads, stays, subst, suc, sym, zero, ℕ, ◌%◌, ◌&&◌, ◌*◌, ◌+◌, ◌-◌, ◌/◌, ◌<◌, ◌||◌, ◌∙◌, ◌∷◌, ◌≡◌, ◌≤◌}
+use Rattle.pattern_core.specs.LinePlanes.{AreSmall}
+use Rattle.std.proofs.lemmas.List.{ext_get_or}
 use Rattle.std.specs.Prelude.{bit_or}
 use Rattle.std.proofs.lemmas.Nat.Bits.{bit_at_cat_low}
 use Rattle.grid_core.proofs.WordLemmas.{either-bits, power-bits, zero-bits}
 use Rattle.std.proofs.lemmas.List.FromFn.{get_or-map-range_with_len, length-map-range_with_len}
-use Rattle.pattern_core.proofs.TableSteps.{decided_by_track}
 
 -- Words as sets of places.
 -- one place on, of those that there are
@@ -43,73 +44,77 @@ length-sets white black count = length-map-range_with_len (set_at white black) 0
 pub sets-at : (white black count k : ℕ) → k < count → get_or (sets_by white black count) k 0 ≡ set_at white black k
 sets-at white black count k lt = get_or-map-range_with_len (set_at white black) 0 count k k 0 lt (omega arith)
 
-set-small : (white black k : ℕ) → set_at white black k < 4
-set-small white black k = grind (arith, common_steps, cases_Bool (has_bit white k), cases_Bool (has_bit black k))
+pub set-small : (white black k : ℕ) {count : ℕ} → k < count → get_or (sets_by white black count) k 0 < 4
+set-small white black k {count} lt = rw (sets-at white black count k lt) (grind (arith, common_steps, cases_Bool (has_bit white k), cases_Bool (has_bit black k)))
 
-bit-white : (a b : Bool) → has_bit (from_bool a + 2 * from_bool b) 0 ≡ a
-bit-white true true = refl
-bit-white true false = refl
-bit-white false true = refl
-bit-white false false = refl
+-- where there is a value, as a word
+abbrev pub word_of : ℕ → ℕ → ℕ → ℕ
+word_of white black v = cond (eqb v 0) white black
 
-bit-black : (a b : Bool) → has_bit (from_bool a + 2 * from_bool b) 1 ≡ b
-bit-black true true = refl
-bit-black true false = refl
-bit-black false true = refl
-bit-black false false = refl
+pub sets-bit : (white black count k v : ℕ) → k < count → v < 2 → has_bit (get_or (sets_by white black count) k 0) v ≡ has_bit (word_of white black v) k
+sets-bit white black count k zero lt low = rw (sets-at white black count k lt) (grind (arith, common_steps, cases_Bool (has_bit white k), cases_Bool (has_bit black k)))
+sets-bit white black count k (suc zero) lt low = rw (sets-at white black count k lt) (grind (arith, common_steps, cases_Bool (has_bit white k), cases_Bool (has_bit black k)))
+sets-bit white black count k (suc (suc v)) lt low = absurd (omega arith)
 
-pub sets-are : (white black count : ℕ) → AreSetsBy white black (sets_by white black count)
-sets-are white black count = record {
-  white_is = λ k lt. rw (sets-at white black count k (omega (arith, length-sets white black count))) (bit-white (has_bit white k) (has_bit black k));
-  black_is = λ k lt. rw (sets-at white black count k (omega (arith, length-sets white black count))) (bit-black (has_bit white k) (has_bit black k));
-}
+-- ---- the cells of sets
+two_bits : (set : ℕ) → set < 4 → from_bool (eqb (set % 2) 1) + 2 * from_bool (ltb 1 set) ≡ set
+two_bits zero low = refl
+two_bits (suc zero) low = refl
+two_bits (suc (suc zero)) low = refl
+two_bits (suc (suc (suc zero))) low = refl
+two_bits (suc (suc (suc (suc set)))) low = absurd (omega arith)
 
--- ---- what is shown of the cells below `at`
-pub both-ways : {a b c d : Bool} → a ≡ d → b ≡ c → (a && b) ≡ (c && d)
-both-ways {c} {d} e f = grind (arith, common_steps, cases_Bool c, cases_Bool d, e, f)
+pub sets-are : (white black : ℕ) (sets : List ℕ) {count : ℕ} → length sets ≡ count → ((k : ℕ) → k < count → slice_index sets k ≡ set_at white black k)
+    → sets ≡ sets_by white black count
+sets-are white black sets {count} long is = ext_get_or 0 sets _ (long ∙ sym (length-sets white black count))
+    (λ k lt. is k (omega arith) ∙ sym (sets-at white black count k (omega arith)))
 
-pub record IsShownTo (word now : ℕ) (shown : ℕ → Bool) (at : ℕ) : Type 0 where
-  pub below : (k : ℕ) → k < at → (has_bit word k && has_bit now k) ≡ shown k
+pub sets-read : (sets : List ℕ) (white black : ℕ) → AreSmall sets → ((k : ℕ) → k < length sets → has_bit white k ≡ eqb (slice_index sets k % 2) 1)
+    → ((k : ℕ) → k < length sets → has_bit black k ≡ ltb 1 (slice_index sets k)) → sets_by white black (length sets) ≡ sets
+sets-read sets white black small is_white is_black = sym (sets-are white black sets refl (λ k lt.
+    rw (is_white k lt, is_black k lt) (sym (two_bits (slice_index sets k) (small k lt)))))
+
+-- ---- what is so of the cells below `at`, by whether the word has them
+pub record IsShownTo (word : ℕ) (is : ℕ → Bool → Type 0) (at : ℕ) : Type 0 where
+  pub below : (k : ℕ) → k < at → is k (has_bit word k)
   pub beyond : (k : ℕ) → at ≤ k → has_bit word k ≡ false
 
-pub shown-none : (word now : ℕ) (shown : ℕ → Bool) → ((k : ℕ) → has_bit word k ≡ false) → IsShownTo word now shown 0
-shown-none word now shown none = record { below = λ k lt. absurd (omega arith); beyond = λ k le. none k }
+pub shown-none : (word : ℕ) (is : ℕ → Bool → Type 0) → ((k : ℕ) → has_bit word k ≡ false) → IsShownTo word is 0
+shown-none word is none = record { below = λ k lt. absurd (omega arith); beyond = λ k le. none k }
 
-pub shown-more : (word next now : ℕ) (shown : ℕ → Bool) (on : Bool) (at : ℕ) → IsShownTo word now shown at
-    → ((k : ℕ) → has_bit next k ≡ (has_bit word k || (on && eqb k at))) → (on && has_bit now at) ≡ shown at → IsShownTo next now shown (at + 1)
-shown-more word next now shown on at are is here = record {
+pub shown-more : (word next : ℕ) (is : ℕ → Bool → Type 0) (on : Bool) (at : ℕ) → IsShownTo word is at
+    → ((k : ℕ) → has_bit next k ≡ (has_bit word k || (on && eqb k at))) → is at on → IsShownTo next is (at + 1)
+shown-more word next is on at are with_it here = record {
   below = λ k lt. elim (cases_eq k at) [
-    | inl e ↦ rw e (ap (λ b. b && has_bit now at) (is at ∙ rw (are.beyond at (omega arith), eq-eqb at at refl) (and-true on)) ∙ here)
-    | inr ne ↦ ap (λ b. b && has_bit now k) (is k ∙ rw (ne_eqb k at ne) (ap (λ b. has_bit word k || b) (and-false on) ∙ or-false (has_bit word k))) ∙ are.below k (omega arith)
+    | inl e ↦ rw e (subst (is at) (sym (with_it at ∙ rw (are.beyond at (omega arith), eq-eqb at at refl) (and-true on))) here)
+    | inr ne ↦ subst (is k) (sym (with_it k ∙ rw (ne_eqb k at ne) (ap (λ b. has_bit word k || b) (and-false on) ∙ or-false (has_bit word k)))) (are.below k (omega arith))
   ];
-  beyond = λ k le. is k ∙ rw (are.beyond k (omega arith), ne_eqb k at (λ e. omega arith)) (and-false on);
+  beyond = λ k le. with_it k ∙ rw (are.beyond k (omega arith), ne_eqb k at (λ e. omega arith)) (and-false on);
 }
 
 -- ---- what is kept is what is shown
-kept-bits : {x : Bool} (w : Bool) {s : Bool} → x ≡ s → (x ≡ true → w ≡ true) → x ≡ (w && s)
-kept-bits {x} w e inside = grind (arith, common_steps, cases_Bool x, e, inside)
+pub both-ways : {a b c d : Bool} → a ≡ d → b ≡ c → (a && b) ≡ (c && d)
+both-ways {c} {d} e f = grind (arith, common_steps, cases_Bool c, cases_Bool d, e, f)
 
-pub shown-decided : (clue : List ℕ) {t : Track} {count white black white' black' : ℕ} → t ≡ track_of (spelled clue) → ArePositive clue
-    → AreShown t count white black white' black' → AreDecided clue count white black white' black'
-shown-decided clue {t} {count} {white} {black} {white'} {black'} is positive shown =
-    let sets = sets_by white black count in let kept = sets_by white' black' count in
-    let long = length-sets white black count in let kept_long = length-sets white' black' count in
-    let old = sets-are white black count in let new = sets-are white' black' count in
-    let bits : (k v : ℕ) → k < length sets → v < 2 → has_bit (get_or kept k 0) v ≡ (has_bit (get_or sets k 0) v && some_leads t (sets_of sets) (cell_is k v) 0) =
-    λ k v lt low. elim (cases_eq v 0) [
-      | inl e ↦ rw (e, new.white_is k (omega (arith, long, kept_long)), old.white_is k lt)
-          (kept-bits (has_bit white k) (shown.white_is k (omega (arith, long))) (shown.white_in k))
-      | inr ne ↦ (
-          let e : v ≡ 1 = omega arith in
-          rw (e, new.black_is k (omega (arith, long, kept_long)), old.black_is k lt)
-          (kept-bits (has_bit black k) (shown.black_is k (omega (arith, long))) (shown.black_in k)))
-    ] in
-    record {
-      sets = sets;
-      kept = kept;
-      long = long;
-      small = λ k lt. rw (sets-at white black count k (omega (arith, long))) (set-small white black k);
-      sets_are = old;
-      decided = decided_by_track clue is positive (record { as_many = kept_long ∙ sym long; bits = bits });
-      kept_are = new;
-    }
+kept-bits : {x : Bool} (y w : Bool) {s : Bool} → x ≡ (y && w) → (y && w) ≡ s → x ≡ (w && s)
+kept-bits y w e is = grind (arith, common_steps, cases_Bool w, cases_Bool y, e, is)
+
+module _ (t : Track) (white black count : ℕ) where
+  -- the cell keeps the value where it has it and some filling shows it
+  abbrev pub IsCellShown : ℕ → ℕ → Bool → Type 0
+  IsCellShown v k on = (on && has_bit (word_of white black v) k) ≡ some_leads t (sets_of (sets_by white black count)) (cell_is k v) 0
+
+  pub shown-kept : (w b white' black' : ℕ) → IsShownTo w (IsCellShown 0) count → IsShownTo b (IsCellShown 1) count
+      → ((k : ℕ) → has_bit white' k ≡ (has_bit w k && has_bit white k)) → ((k : ℕ) → has_bit black' k ≡ (has_bit b k && has_bit black k))
+      → AreRowsKept t (sets_by white black count) (sets_by white' black' count)
+  shown-kept w b white' black' on_white on_black is_white is_black = record {
+    as_many = length-sets white' black' count ∙ sym (length-sets white black count);
+    bits = λ k v lt low. let less : k < count = omega (arith, length-sets white black count) in
+        rw (sets-bit white' black' count k v less low, sets-bit white black count k v less low) (each k v less low);
+  }
+    where
+      each : (k v : ℕ) → k < count → v < 2 → has_bit (word_of white' black' v) k
+          ≡ (has_bit (word_of white black v) k && some_leads t (sets_of (sets_by white black count)) (cell_is k v) 0)
+      each k zero lt low = kept-bits _ _ (is_white k) (on_white.below k lt)
+      each k (suc zero) lt low = kept-bits _ _ (is_black k) (on_black.below k lt)
+      each k (suc (suc v)) lt low = absurd (omega arith)

@@ -1,6 +1,5 @@
 -- The steps of the table at a place of the line, and the line that goes along the spelled clue by the places that its cells reach.
-use Rattle.pattern_core.proofs.Common.{ArePositive, AreRows, AreRowsKept, Bool, IsBelow, IsDecided, List, Track, [], ahead, and-true, and_from, and_parts, any_below, any_below-here, any_below-same, any_below-some, any_cells, ap, ap₂, arith, bit_and, cases_Bool, cases_eq, cell_is, common_steps, drop, drop-drop, drop_all, drop_more, eqb, eqb-true, false, false_from_ne_true, fun_ext, get_or, get_or-drop, get_or-map, get_or-set_other, get_or-set_same, goes_on, has_bit, has_runs, inl, inr, leads, led, length, length-map, length-set, or-false, refl, set, set_for, set_of_bits, sets_of, some_filling, some_leads, spelled, stays, strikes_by_fillings, suc, sym, track_of, true, true≢false, zero, ℕ, ◌&&◌, ◌+◌, ◌<◌, ◌||◌, ◌∙◌, ◌∷◌, ◌≡◌, ◌≤◌}
-use Rattle.grid_core.proofs.BoardLemmas.{bits_both}
+use Rattle.pattern_core.proofs.Common.{ArePositive, AreRows, AreRowsKept, Bool, IsBelow, IsDecidedBy, List, Track, [], ahead, and-true, and_from, and_parts, any_below, any_below-here, any_below-same, any_below-some, any_cells, ap, arith, cases_Bool, cases_eq, cell_is, common_steps, drop, drop-drop, drop_all, drop_more, eqb, eqb-true, false, false_from_ne_true, fun_ext, get_or, get_or-drop, get_or-map, get_or-set_other, get_or-set_same, goes_on, has_bit, has_runs, inl, inr, leads, led, length, length-map, length-set, or-false, refl, set, set_for, set_of_bits, sets_of, some_filling, some_leads, spelled, stays, suc, sym, track_of, true, true≢false, zero, ℕ, ◌&&◌, ◌+◌, ◌<◌, ◌||◌, ◌∙◌, ◌∷◌, ◌≡◌, ◌≤◌}
 use Rattle.pattern_core.proofs.SpelledRuns.{leads_here, leads_next, leads_runs, same_tests, strikes_by_track, ways_on}
 
 -- a way on from the places that are reached before the cell at `at`, by any test of the cells from there on
@@ -103,23 +102,6 @@ module _ (n : ℕ) (t : Track) (sets : List ℕ) (reached : ℕ → Bool) (at : 
       (λ p low. ap (λ x. reached p && x) (way_here t sets at lt v p small ∙ ap (λ f. has_bit (get_or sets at 0) v && ahead t (set_for v) f p) after))
       ∙ pulled (has_bit (get_or sets at 0) v) (λ p. ahead t (set_for v) next p)
 
-  -- the bits of the cell are what is shown, and those of the cells before were
-  kept_step : {kept : List ℕ} (new : List ℕ) → AreRowsKept t sets kept at → length new ≡ length kept → ((i : ℕ) → (i ≡ at → ⊥) → get_or new i 0 ≡ get_or kept i 0)
-      → ((v : ℕ) → v < 2 → has_bit (get_or new at 0) v ≡ (has_bit (get_or sets at 0) v && leads_by (set_for v))) → AreRowsKept t sets new (at + 1)
-  kept_step new k long others is = record {
-    as_many = long ∙ k.as_many;
-    bits = λ i v below small. elim (cases_eq i at) [
-      | inl e ↦ ap (λ j. has_bit (get_or new j 0) v) e ∙ is v small ∙ twice (has_bit (get_or sets at 0) v) _
-          ∙ ap (λ x. has_bit (get_or sets at 0) v && x) (sym (shown_at v small))
-          ∙ ap (λ j. has_bit (get_or sets j 0) v && some_leads t (sets_of sets) (cell_is j v) 0) (sym e)
-      | inr ne ↦ ap (λ x. has_bit x v) (others i ne) ∙ k.bits i v (omega arith) small
-    ];
-  }
-    where
-      twice : (x y : Bool) → (x && y) ≡ (x && (x && y))
-      twice true y = refl
-      twice false y = refl
-
   -- whether it leads on where it is white, and where it is black
   pub leads_white : (white : ℕ → Bool) → IsBelow n t → ((p : ℕ) → p < n → white p ≡ led t 1 reached p) → any_below (λ p. white p && next p) n ≡ leads_by 1
   leads_white white below is = ways_on 1 n below reached white (ahead t 1 next) next is (λ p. refl)
@@ -127,26 +109,9 @@ module _ (n : ℕ) (t : Track) (sets : List ℕ) (reached : ℕ → Bool) (at : 
   pub leads_black : (black : ℕ → Bool) → IsBelow n t → ((p : ℕ) → p < n → black p ≡ led t 2 reached p) → any_below (λ p. black p && next p) n ≡ leads_by 2
   leads_black black below is = ways_on 2 n below reached black (ahead t 2 next) next is (λ p. refl)
 
-  -- the cell keeps those of its values by which a way leads from what it reaches
-  pub kept_cell : (white black : ℕ → Bool) (kept : List ℕ) (shown : ℕ) → IsBelow n t
-      → ((p : ℕ) → p < n → white p ≡ led t 1 reached p)
-      → ((p : ℕ) → p < n → black p ≡ led t 2 reached p)
-      → has_bit shown 0 ≡ any_below (λ p. white p && next p) n → has_bit shown 1 ≡ any_below (λ p. black p && next p) n
-      → get_or kept at 0 ≡ get_or sets at 0 → AreRowsKept t sets kept at → AreRowsKept t sets (set kept at (bit_and (get_or kept at 0) shown)) (at + 1)
-  kept_cell white black kept shown below is_white is_black shows_white shows_black same k =
-      kept_step _ k (length-set kept at _) (λ i other. get_or-set_other kept at i _ 0 other) (λ v small.
-      ap (λ s. has_bit s v) (get_or-set_same kept at _ 0 (omega (arith, k.as_many))) ∙ bits_both (get_or kept at 0) shown v
-      ∙ ap₂ (λ x y. has_bit x v && y) same (by v small))
-    where
-      by : (v : ℕ) → v < 2 → has_bit shown v ≡ leads_by (set_for v)
-      by zero small = shows_white ∙ leads_white white below is_white
-      by (suc zero) small = shows_black ∙ leads_black black below is_black
-      by (suc (suc v)) small = absurd (omega arith)
-
 -- ---- all cells
 pub decided_by_track : (clue : List ℕ) {sets kept : List ℕ} {t : Track} → t ≡ track_of (spelled clue) → ArePositive clue
-    → AreRowsKept t sets kept (length sets)
-    → IsDecided 2 (strikes_by_fillings (has_runs clue)) sets kept
+    → AreRowsKept t sets kept → IsDecidedBy clue sets kept
 decided_by_track clue is positive k = grind (arith, common_steps, cases_Bool, strikes_by_track)
 
 leads_cell : (t : Track) (x : ℕ) (cells : List ℕ) (p : ℕ) → leads t p (x ∷ cells) ≡ ahead t (set_for x) (λ q. leads t q cells) p

@@ -1,6 +1,5 @@
 -- Which lines wait: those that have a place, and after a visit.
-use Rattle.pattern_core.proofs.Common.{AreLinesRested, AreLinesWithin, Bool, Candidates, Column, Extent, IsAlive, IsClosedBut, IsExtent, IsIdle, IsNext, IsStart, IsWoken, Line, List, None, Option, Pattern, Row, Some, Waits, alive_but, and_from, and_parts, any_below, any_below-here, any_below-none, any_below-some, ap, arith, but, calls, cases_Bool, cases_eq, cases_lt, column_has, common_steps, count_below-pos, counts_of, crossed_by, div-add-mod', div-mul-add, eq-eqb, eqb, eqb-true, false, false_from_ne_true, false≢true, has_bit, has_lost, has_place, house_of, inl, inr, is_dead-each, is_marked, is_same, le-ltb, length, length-line_places, line_len, line_of, line_places, line_rules, line_rules-alive, line_rules-lawful, lines_beside, lines_of, lines_with, lt-ltb, ltb-true, mod-lt, mod-mul-add, mul-le-mul_right, ne_eqb, not, number_of, or_cases, or_left, or_parts, or_right, place-in, refl, rested_around, row_has, sym, true, true≢false, waiting, woken, ℕ, ◌%◌, ◌&&◌, ◌*◌, ◌+◌, ◌-◌, ◌/◌, ◌<◌, ◌||◌, ◌∙◌, ◌≡◌, ◌≤◌, ◌⊎◌}
-use Rattle.pattern_core.proofs.Roomy.{has_both}
+use Rattle.pattern_core.proofs.Common.{AreLinesRested, AreLinesWithin, Bool, Candidates, Column, Extent, IsAlive, IsClosedBut, IsExtent, IsIdle, IsNext, IsStart, IsWoken, Line, List, None, Option, Pattern, Row, Some, Waits, alive_but, and_from, and_parts, any_below, any_below-here, any_below-none, any_below-some, ap, arith, but, calls, cases_Bool, cases_eq, cases_lt, column_has, common_steps, counts_of, crossed_by, div-add-mod', div-mul-add, eq-eqb, eqb, eqb-true, false, false_from_ne_true, false≢true, has_bit, has_lost, has_place, house_of, inl, inr, is_marked, is_same, le-ltb, length, length-line_places, line_len, line_of, line_places, line_rules, line_rules-alive, line_rules-lawful, lines_beside, lines_of, lines_with, lt-ltb, ltb-true, mod-lt, mod-mul-add, mul-le-mul_right, ne_eqb, not, number_of, or_cases, or_left, or_parts, or_right, place-in, refl, rested_around, row_has, sym, true, true≢false, waiting, woken, ℕ, ◌%◌, ◌&&◌, ◌*◌, ◌+◌, ◌-◌, ◌/◌, ◌<◌, ◌||◌, ◌∙◌, ◌≡◌, ◌≤◌, ◌⊎◌}
 use Rattle.pattern_core.proofs.LineTakings.{cell-at, cell_of, line-long}
 
 module _ (size : Extent) {w place : ℕ} (from : ℕ) (same : w ≡ size.w) (within : place < size.w * size.h) where

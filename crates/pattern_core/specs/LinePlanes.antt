@@ -8,7 +8,7 @@ use Rattle.engine_core.specs.Queue.{IsRested, counts_of}
 use Rattle.engine_core.specs.declared.mode.Closing.{Closing}
 use Rattle.pattern_core.specs.LineRules.{line_rules}
 use Rattle.pattern_core.specs.Lines.{IsDecidedBy}
-use Rattle.pattern_core.specs.Track.{Track, cell_is, sets_of, some_leads}
+use Rattle.pattern_core.specs.Track.{AreRowsKept, Track}
 use Rattle.pattern_core.specs.declared.planes.filter.Cells.{Cells}
 use Rattle.pattern_core.specs.declared.planes.waits.Waits.{Waits}
 
@@ -73,37 +73,19 @@ abbrev pub IsWithIf : {W : Type 0} → (W → ℕ) → W → ℕ → Bool → W 
 IsWithIf bits places place on result =
     (p : ℕ) → has_bit (bits result) p ≡ (has_bit (bits places) p || (on && (p == place)))
 
--- of so many cells the second words keep what some filling that leads along the track shows
-pub record AreShown (t : Track) (count white black white' black' : ℕ) : Type 0 where
-  pub white_is : (k : ℕ) → k < count
-      → has_bit white' k ≡ some_leads t (sets_of (sets_by white black count)) (cell_is k 0) 0
-  pub black_is : (k : ℕ) → k < count
-      → has_bit black' k ≡ some_leads t (sets_of (sets_by white black count)) (cell_is k 1) 0
-  pub white_in : (k : ℕ) → has_bit white' k ≡ true → has_bit white k ≡ true
-  pub black_in : (k : ℕ) → has_bit black' k ≡ true → has_bit black k ≡ true
+-- each set has these two values at most
+abbrev pub AreSmall : List ℕ → Type 0
+AreSmall sets = (k : ℕ) → k < length sets → slice_index sets k < 4
 
+-- of so many cells the second words keep what some filling that leads along the track shows; and what some filling with
+-- the clue's runs has
 abbrev pub AreCellsShown : {W : Type 0} → (W → ℕ) → Track → ℕ → Cells W → Cells W → Type 0
 AreCellsShown bits t count cells kept =
-    AreShown t count (bits cells.white) (bits cells.black) (bits kept.white) (bits kept.black)
-
--- the sets of cells
-pub record AreSetsBy (white black : ℕ) (sets : List ℕ) : Type 0 where
-  pub white_is : (k : ℕ) → k < length sets → has_bit (slice_index sets k) 0 ≡ has_bit white k
-  pub black_is : (k : ℕ) → k < length sets → has_bit (slice_index sets k) 1 ≡ has_bit black k
-
--- of so many cells the second words keep what some filling with the clue's runs has
-pub record AreDecided (clue : List ℕ) (count white black white' black' : ℕ) : Type 0 where
-  pub sets : List ℕ
-  pub kept : List ℕ
-  pub long : length sets ≡ count
-  pub small : (k : ℕ) → k < length sets → slice_index sets k < 4
-  pub sets_are : AreSetsBy white black sets
-  pub decided : IsDecidedBy clue sets kept
-  pub kept_are : AreSetsBy white' black' kept
+    AreRowsKept t (sets_in bits cells count) (sets_in bits kept count)
 
 abbrev pub AreCellsDecided : {W : Type 0} → (W → ℕ) → List ℕ → ℕ → Cells W → Cells W → Type 0
 AreCellsDecided bits clue count cells kept =
-    AreDecided clue count (bits cells.white) (bits cells.black) (bits kept.white) (bits kept.black)
+    IsDecidedBy clue (sets_in bits cells count) (sets_in bits kept count)
 
 -- ---- a visit of a line
 -- the k-th cell of the house has another number of values than before

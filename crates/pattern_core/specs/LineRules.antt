@@ -1,7 +1,9 @@
 -- What the rules of Pattern mean to a search: each line is a house.
-use Rattle.std.specs.Prelude.{ℕ, ◌+◌, ◌*◌, Bool, true, List}
-use Rattle.pattern_core.specs.Below.{IsExtent, Pattern, RuleSystem, all_below, all_of, line_numbers, line_places, lines_of, strikes_at, strikes_by_fillings}
+use Rattle.std.specs.Prelude.{ℕ, ◌+◌, ◌*◌, Bool, true, List, map}
+use Rattle.pattern_core.specs.Below.{Extent, IsExtent, Pattern, RuleSystem, all_below, all_of, line_numbers, line_places, lines_of, strikes_at, strikes_by_fillings}
 use Rattle.pattern_core.specs.Lines.{clue_of, has_runs}
+use Rattle.pattern_core.specs.declared.line_clue.LineClue.{LineClue}
+use Rattle.pattern_core.specs.declared.line_clue.LineClue.TheVariants.{Long, Short}
 
 -- whether each line's runs are its clue
 unfoldable pub is_pattern_solution : Pattern → List ℕ → Bool
@@ -28,3 +30,13 @@ line_rules p = record {
 pub record LawfulPattern : Type 0 where
   pub pattern : Pattern
   pub extent : IsExtent pattern.size
+
+-- The clue of a line, whatever words it is spelled in.
+-- the clue's numbers
+abbrev pub numbers_in : LineClue → List ℕ
+numbers_in (Short clue) = clue
+numbers_in (Long clue) = clue
+
+-- the puzzle of a size with these clues
+abbrev pub pattern_of : Extent → List LineClue → Pattern
+pattern_of size clues = record { size = size; clues = map numbers_in clues }

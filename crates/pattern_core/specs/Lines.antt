@@ -1,10 +1,7 @@
 -- The clues of lines, and what their runs are.
-use Rattle.std.specs.Prelude.{Bool, List, [], length, map, nat_eq, slice_index_or, ℕ, ◌+◌, ◌<◌, ◌≡◌, ◌≤◌}
-use Rattle.pattern_core.specs.Below.{AllByRecursion, Extent, IsDecided, Pattern, line_numbers, pointwise, runs, strikes_by_fillings, used}
-use Rattle.pattern_core.specs.declared.line_clue.LineClue.{LineClue}
-use Rattle.pattern_core.specs.declared.line_clue.LineClue.TheVariants.{Long, Short}
+use Rattle.std.specs.Prelude.{Bool, List, [], length, nat_eq, slice_index_or, ℕ, ◌+◌, ◌<◌, ◌≡◌, ◌≤◌}
+use Rattle.pattern_core.specs.Below.{AllByRecursion, IsDecided, Pattern, line_numbers, pointwise, runs, strikes_by_fillings, used}
 
--- The clues of lines, and what their runs are.
 -- the clue of a line
 abbrev pub clue_of : Pattern → ℕ → List ℕ
 clue_of p line = slice_index_or p.clues line []
@@ -37,13 +34,3 @@ IsRoomyFrom clue from = (n : ℕ) → n < 1000 → from ≤ n → IsRoomy clue n
 -- what is kept of a line's sets is what some filling with the clue's runs has
 abbrev pub IsDecidedBy : List ℕ → List ℕ → List ℕ → Type 0
 IsDecidedBy clue sets kept = IsDecided 2 (strikes_by_fillings (has_runs clue)) sets kept
-
--- The clue of a line, whatever words it is spelled in.
--- the clue's numbers
-abbrev pub numbers_in : LineClue → List ℕ
-numbers_in (Short clue) = clue
-numbers_in (Long clue) = clue
-
--- the puzzle of a size with these clues
-abbrev pub pattern_of : Extent → List LineClue → Pattern
-pattern_of size clues = record { size = size; clues = map numbers_in clues }

@@ -133,14 +133,11 @@ pub record AreRows {A : Type 0} (has : A → ℕ → Bool) (t : Track) (sets : L
 abbrev pub AreRowsAlong : {A : Type 0} → (A → ℕ) → TrackSlots A → List ℕ → List A → Type 0
 AreRowsAlong bits steps sets rows = AreRows (slots_of bits) (along (slots_of bits) steps) sets rows 0
 
--- the bits kept of the cells before `upto` are those that some filling shows
-pub record AreRowsKept (t : Track) (sets kept : List ℕ) (upto : ℕ) : Type 0 where
+-- the bits kept of the cells are those that some filling shows
+pub record AreRowsKept (t : Track) (sets kept : List ℕ) : Type 0 where
   pub as_many : length kept ≡ length sets
-  pub bits : (k v : ℕ) → k < upto → v < 2 → has_bit (get_or kept k 0) v
+  pub bits : (k v : ℕ) → k < length sets → v < 2 → has_bit (get_or kept k 0) v
       ≡ (has_bit (get_or sets k 0) v && some_leads t (sets_of sets) (cell_is k v) 0)
-
-abbrev pub AreAllRowsKept : Track → List ℕ → List ℕ → Type 0
-AreAllRowsKept t sets kept = AreRowsKept t sets kept (length sets)
 
 -- what is spelled so far: its white places, its black ones, and the place after it
 pub record IsSpelling {A : Type 0} (has : A → ℕ → Bool) (cells : List ℕ)

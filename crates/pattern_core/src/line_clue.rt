@@ -1,11 +1,11 @@
 //! The clue of a line, spelled in words of 64 bits where they have room for it.
 
-ghost use Rattle.std.specs.Prelude.{◌≡◌, ◌<◌, ◌≤◌, ◌*◌, true, false, length};
-ghost use Rattle.pattern_core.specs.Below.{IsGrid, IsPattern, line_numbers, lines_of, max_side};
-ghost use Rattle.pattern_core.specs.Lines.{clue_of, has_runs, IsDecidedBy, IsRoomy, numbers_in};
+ghost use Rattle.std.specs.Prelude.{◌≡◌, ◌<◌, ◌*◌, true};
+ghost use Rattle.pattern_core.specs.Below.{IsGrid, IsPattern, line_numbers, lines_of};
+ghost use Rattle.pattern_core.specs.LineRules.{numbers_in};
+ghost use Rattle.pattern_core.specs.Lines.{clue_of, has_runs, IsRoomy};
 
 use crate::meets::meets;
-use crate::table::filter;
 use crate::track::{SpelledClue, measured};
 use gameid_core::PatternPuzzle;
 use grid_core::{Grid, Size};
@@ -63,18 +63,6 @@ impl LineClue {
         match self {
             LineClue::Short(clue) => clue.is_roomy(cells),
             LineClue::Long(clue) => clue.is_roomy(cells),
-        }
-    }
-
-    /// Keeps of each cell of a line the values that some filling with the clue's runs has there, as `table::filter` says.
-    pub(crate) fn filter(&self, sets: &mut [u32], rows: &mut Rows) -> bool
-        requires { length sets.old ≤ max_side }
-        ensures decided { IsDecidedBy (numbers_in self.now) sets.old sets.new }
-        ensures unchanged { result ≡ false → sets.new ≡ sets.old }
-    {
-        match self {
-            LineClue::Short(clue) => filter(sets, clue, &mut rows.short),
-            LineClue::Long(clue) => filter(sets, clue, &mut rows.long),
         }
     }
 

@@ -5,12 +5,13 @@ ghost use Rattle.pattern_core.specs.Below.{IsBoardOf, IsExtent, IsIdle, after, l
 ghost use Rattle.grid_core.specs.Board.{has, SameShape};
 ghost use Rattle.engine_core.specs.Closing.{HasStruck};
 ghost use Rattle.engine_core.specs.declared.mode.Mode.TheVariants.{Queue};
-ghost use Rattle.pattern_core.specs.Lines.{clue_of, numbers_in};
+ghost use Rattle.pattern_core.specs.Lines.{clue_of};
 ghost use Rattle.pattern_core.specs.LinePlanes.{IsIdleAtStart};
-ghost use Rattle.pattern_core.specs.LineRules.{line_rules};
+ghost use Rattle.pattern_core.specs.LineRules.{line_rules, numbers_in};
 
 use crate::line_cells::write_places;
 use crate::line_clue::{LONGEST, LineClue, Rows};
+use crate::planes::filter::filter_sets;
 use engine_core::{Mode, Rules, apply, gather};
 use gameid_core::PatternPuzzle;
 use grid_core::{Board, Fixed, Grid, Size, line_count, line_len, line_place};
@@ -32,8 +33,7 @@ pub struct PatternLines {
 
 impl Model for PatternLines {
     ghost use Rattle.gameid_core.specs.Puzzles.{IsPattern};
-    ghost use Rattle.pattern_core.specs.Lines.{pattern_of};
-    ghost use Rattle.pattern_core.specs.LineRules.{LawfulPattern};
+    ghost use Rattle.pattern_core.specs.LineRules.{LawfulPattern, pattern_of};
 
     ghost Value = { LawfulPattern };
 
@@ -177,7 +177,7 @@ impl Rules for PatternLines {
         let (places, sets) = (&mut places[..cells], &mut sets[..cells]);
         write_places(size, house, places);
         gather(board, places, sets);
-        self.clue(house).filter(sets, &mut scratch.rows);
+        filter_sets(sets, self.clue(house), &mut scratch.rows);
         apply(board, places, sets)
     }
 

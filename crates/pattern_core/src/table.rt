@@ -6,16 +6,12 @@
 //! The rows are filled from the last cell backwards; then one word, the slots that can be reached, goes forwards, and a
 //! value of a cell stays where the two meet. What a cell's set lets a line do is looked up by the set.
 
-ghost use Rattle.std.specs.Prelude.{◌≡◌, ◌*◌, ◌+◌, ◌<◌, false, length};
-ghost use Rattle.pattern_core.specs.Below.{from_bool, has_bit};
-ghost use Rattle.pattern_core.specs.Lines.{IsDecidedBy, ArePositive};
-ghost use Rattle.pattern_core.specs.Track.{AreAhead, AreAllRowsKept, AreLed, AreMoves, AreRowsAlong, IsBelow, along, slots_of, spelled, track_of};
+ghost use Rattle.std.specs.Prelude.{◌≡◌};
+ghost use Rattle.pattern_core.specs.Lines.{ArePositive};
+ghost use Rattle.pattern_core.specs.Track.{AreAhead, AreLed, AreMoves, IsBelow, along, slots_of, spelled, track_of};
 
 use crate::slots::Slots;
 use crate::track::{SpelledClue, TrackSlots};
-
-/// The set of both values.
-pub(crate) const BOTH: u32 = 3;
 
 /// The steps of a line along a clue, and what a cell lets it do, looked up by the cell's set: from which slots the line
 /// goes on, and at which it may stay.
@@ -75,63 +71,4 @@ pub(crate) fn ways_of<P: Slots>(steps: TrackSlots<P>, reached: P) -> Ways<P>
         white: steps.stay.both(reached).either(next),
         black: steps.black.both(reached).on(),
     }
-}
-
-/// The set of the values that are shown.
-pub(crate) fn set_of(white: bool, black: bool) -> u32
-    ensures white { has_bit result 0 ≡ white }
-    ensures black { has_bit result 1 ≡ black }
-    ensures value { result ≡ from_bool white + 2 * from_bool black }
-{
-    u32::from(white) + 2 * u32::from(black)
-}
-
-/// Fills the table, from the last cell backwards.
-fn fill_rows<P: Slots>(moves: &Moves<P>, sets: &[u32], rows: &mut [P])
-    requires { length sets.now < length rows.old }
-    ensures { AreRowsAlong P.bits moves.now.steps sets.now rows.new }
-{
-    let mut at = sets.len();
-    rows[at] = moves.steps.ends;
-    while at > 0 {
-        at -= 1;
-        rows[at] = ahead_of(moves, sets[at], rows[at + 1]);
-    }
-}
-
-/// Keeps of each cell what a way from the first slot to the end shows there, and says whether one of them lost any. It asks
-/// of no cell what it has, since that can't be foreseen.
-fn filter_cells<P: Slots>(moves: &Moves<P>, sets: &mut [u32], rows: &[P]) -> bool
-    requires rows { AreRowsAlong P.bits moves.now.steps sets.old rows.now }
-    requires below { IsBelow P.room (along (slots_of P.bits) moves.now.steps) }
-    ensures kept { AreAllRowsKept (along (slots_of P.bits) moves.now.steps) sets.old sets.new }
-    ensures unchanged { result ≡ false → sets.new ≡ sets.old }
-{
-    let mut reached = P::first();
-    let mut struck = false;
-    for at in 0..sets.len() {
-        let set = sets[at];
-        let ways = ways_of(moves.steps, reached);
-        let after = rows[at + 1];
-        let white = ways.white.both(after).is_some();
-        let black = ways.black.both(after).is_some();
-        let left = set & set_of(white, black);
-        struck |= left != set;
-        sets[at] = left;
-        reached = led_by(moves, set, reached);
-    }
-    struck
-}
-
-/// Keeps of each cell of a line the values that some filling of the line with the clue's runs has there, and says whether
-/// there may be a cell that lost any. It takes no memory: the table is written into `rows`, one for each cell and one more. Its
-/// steps are two for each cell of the line, of a few word operations each.
-pub(crate) fn filter<P: Slots>(sets: &mut [u32], clue: &SpelledClue<P>, rows: &mut [P]) -> bool
-    requires room { length sets.old < length rows.old }
-    ensures decided { IsDecidedBy clue.now sets.old sets.new }
-    ensures unchanged { result ≡ false → sets.new ≡ sets.old }
-{
-    let moves = moves_of(clue);
-    fill_rows(&moves, sets, rows);
-    filter_cells(&moves, sets, rows)
 }

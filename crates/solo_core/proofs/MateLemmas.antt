@@ -257,9 +257,9 @@ module _ (n : ℕ) (sets rest : List ℕ) where
       taken = λ l lt. grind (arith, nat_tests, b.taken l, inside (changed l));
     }
 
-    apart : (l : ℕ) → l < k → changed l ≡ mate j → ⊥
+    no_mate : (l : ℕ) → l < k → changed l ≡ mate j → ⊥
     unfolding changed
-    apart l lt e = grind (arith, nat_tests, no_free j lj, b.own l j lt lj)
+    no_mate l lt e = grind (arith, nat_tests, no_free j lj, b.own l j lt lj)
 
     pub goes_on_swapped : {new : ℕ → ℕ} → new k ≡ mate j → new j ≡ value → ((l : ℕ) → l < k → (l ≡ j → ⊥) → new l ≡ mate l)
         → has_in sets (slice_index rest k) (mate j) ≡ true → GoesOn n sets rest k new free value
@@ -268,6 +268,6 @@ module _ (n : ℕ) (sets rest : List ℕ) where
       low,
       λ left inside off.
           given (begun inside off) (λ l lt. grind (arith, nat_tests, other l lt))
-          (rw last (b.in_range j lj)) (rw last there) (λ l lt e. apart l lt (e ∙ last)) (λ v on. on)
+          (rw last (b.in_range j lj)) (rw last there) (λ l lt e. no_mate l lt (e ∙ last)) (λ v on. on)
           (rw last (false_from_ne_true (has_bit left (mate j)) (λ on. true≢false (sym (inside (mate j) on) ∙ b.taken j lj)))),
     )

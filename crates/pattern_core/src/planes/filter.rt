@@ -2,13 +2,14 @@
 
 ghost use Rattle.std.specs.Prelude.{◌<◌, ◌≡◌, ◌≤◌, length};
 ghost use Rattle.grid_core.specs.Extent.{max_side};
-ghost use Rattle.pattern_core.specs.Lines.{numbers_in};
-ghost use Rattle.pattern_core.specs.LinePlanes.{AreCellsDecided, AreCellsShown, IsWithIf, set_at, sets_in};
+ghost use Rattle.pattern_core.specs.LineRules.{numbers_in};
+ghost use Rattle.pattern_core.specs.Lines.{IsDecidedBy};
+ghost use Rattle.pattern_core.specs.LinePlanes.{AreCellsDecided, AreCellsShown, AreSmall, IsWithIf, set_at, sets_in};
 ghost use Rattle.pattern_core.specs.Track.{AreRowsAlong, IsBelow, along, slots_of};
 
 use crate::line_clue::{LineClue, Rows};
 use crate::slots::Slots;
-use crate::table::{Moves, ahead_of, led_by, moves_of, set_of, ways_of};
+use crate::table::{Moves, ahead_of, led_by, moves_of, ways_of};
 use crate::track::SpelledClue;
 use grid_core::Word;
 
@@ -32,12 +33,39 @@ pub(crate) struct Cells<W> {
 }
 
 impl<W: Word> Cells<W> {
+    /// The cells with these sets.
+    fn of(sets: &[u32]) -> Cells<W>
+        requires room { length sets.now ≤ W.room }
+        requires small { AreSmall sets.now }
+        ensures { sets_in W.bits result (length sets.now) ≡ sets.now }
+    {
+        let mut cells = Cells {
+            white: W::none(),
+            black: W::none(),
+        };
+        for k in 0..sets.len() {
+            cells.white = with_if(cells.white, k, sets[k] % 2 == 1);
+            cells.black = with_if(cells.black, k, sets[k] > 1);
+        }
+        cells
+    }
+
+    /// Writes the sets of the cells.
+    fn write(self, sets: &mut [u32])
+        requires { length sets.old ≤ W.room }
+        ensures { sets.new ≡ sets_in W.bits self (length sets.old) }
+    {
+        for k in 0..sets.len() {
+            sets[k] = self.set(k);
+        }
+    }
+
     /// The set of a cell.
     fn set(self, k: usize) -> u32
         requires { k < W.room }
         ensures { result ≡ set_at (W.bits self.white) (W.bits self.black) k }
     {
-        set_of(self.white.has(k), self.black.has(k))
+        u32::from(self.white.has(k)) + 2 * u32::from(self.black.has(k))
     }
 
     /// Fills the table for so many cells, from the last one backwards.
@@ -78,8 +106,7 @@ impl<W: Word> Cells<W> {
         }
     }
 
-    /// Keeps of a line of so many cells the values that some filling with the clue's runs has, by a table like that of a
-    /// visit.
+    /// Keeps of a line of so many cells the values that some filling with the clue's runs has, by the table.
     fn filter_by<P: Slots>(self, count: usize, clue: &SpelledClue<P>, rows: &mut [P]) -> Cells<W>
         requires room { count < length rows.old }
         requires fits { count ≤ W.room }
@@ -101,4 +128,15 @@ impl<W: Word> Cells<W> {
             LineClue::Long(clue) => self.filter_by(count, clue, &mut rows.long),
         }
     }
+}
+
+/// Keeps of each cell of a line the values that some filling of the line with the clue's runs has there. It takes no memory:
+/// the table is written into `rows`. Its steps are four for each cell of the line, of a few word operations each.
+pub(crate) fn filter_sets(sets: &mut [u32], clue: &LineClue, rows: &mut Rows)
+    requires few { length sets.old ≤ max_side }
+    requires small { AreSmall sets.old }
+    ensures { IsDecidedBy (numbers_in clue.now) sets.old sets.new }
+{
+    let cells: Cells<u128> = Cells::of(sets);
+    cells.filter(sets.len(), clue, rows).write(sets);
 }

@@ -1,4 +1,4 @@
-use Rattle.pattern_core.proofs.Common.{AreDecided, and_parts, any_below-none, any_below-some, ap, arith, cases_Bool, clue_of, common_steps, has_bit, house_of, line_len, lt-ltb, ltb, ltb-true, not, not-true, or_parts, sym, true, ℕ, ◌&&◌, ◌<◌, ◌||◌, ◌∙◌, ◌≡◌}
+use Rattle.pattern_core.proofs.Common.{IsDecidedBy, and_parts, any_below-none, any_below-some, ap, arith, cases_Bool, clue_of, common_steps, has_bit, house_of, line_len, lt-ltb, ltb, ltb-true, not, not-true, or_parts, sets_by, sym, true, ℕ, ◌&&◌, ◌<◌, ◌||◌, ◌∙◌, ◌≡◌}
 use Rattle.pattern_core.proofs.LineTakings.{both-taken, cells-in, kept-dead, left-alive, line-long, line-within, lost-at, taken-is, wide-in}
 use Rattle.pattern_core.proofs.planes.visit.visit.Goals as goal
 use Rattle.pattern_core.proofs.planes.visit.visit.Goals.{After-filter-kept}
@@ -10,8 +10,9 @@ count g c =
     (rw (c.house_of-house.ensures, size) at c.line_len-count.ensures.cells) ∙ line-long c.args.rules.now.pattern.size c.args.line c.requires.line_in
 
 decided : (g : _) (c : After-filter-kept g)
-    → AreDecided (clue_of c.args.rules.now.pattern (house_of c.args.rules.now.pattern.size c.args.line)) (line_len c.args.rules.now.pattern.size c.args.line)
-    (g.W.Word.bits c.line.result) (g.W.Word.bits c.line-2.result) (g.W.Word.bits c.filter-kept.result.white) (g.W.Word.bits c.filter-kept.result.black)
+    → (let p = c.args.rules.now.pattern in let cells = λ (w b : ℕ). sets_by w b (line_len p.size c.args.line) in let bits = g.W.Word.bits in
+    IsDecidedBy (clue_of p (house_of p.size c.args.line)) (cells (bits c.line.result) (bits c.line-2.result))
+    (cells (bits c.filter-kept.result.white) (bits c.filter-kept.result.black)))
 decided g c =
     let clue = rw (c.house_of-house.ensures, c.size-size.ensures) at c.clue.ensures in
     rw (clue, count g c) at c.filter-kept.ensures
@@ -25,7 +26,7 @@ returns-then-is_some-clause-visited g c =
     let parts = and_parts (ltb w.0 c.line_len-count.result) (not (has_bit (bits c.either.result) w.0)) (rw (c.all.ensures w.0) at (sym (c.but.ensures w.0) ∙ w.2)) in
     let none = or_parts _ _ (sym (c.either.ensures w.0) ∙ not-true _ parts.1) in
     kept-dead c.args.rules.now.pattern c.args.planes.now c.args.line r.size r.line_in (wide-in lawful r.size)
-    (cells-in lawful r.size) c.line.ensures.cells c.line-2.ensures.cells (decided g at) w.0
+    (cells-in lawful r.size) _ _ (bits kept.white) (bits kept.black) c.line.ensures.cells c.line-2.ensures.cells (decided g at) w.0
     (rw (count g at) at (ltb-true _ _ parts.0)) none.0 none.1
 
 pub returns-clause-visited : goal.returns-clause-visited
@@ -43,8 +44,8 @@ returns-clause-visited g c =
     let whole : (k : ℕ) → k < line_len pat.size line → (has_bit (bits kept.white) k || has_bit (bits kept.black) k) ≡ true = λ k less.
     let off = any_below-none (has_bit (bits c.but.result)) g.W.Word.room (sym c.is_some.ensures ∙ c.if-is_some.false) k (omega (arith, less, rw r.size at c.line.ensures.fits)) in
     grind (arith, common_steps, cases_Bool, off, c.but.ensures k, c.all.ensures k, c.either.ensures k, lt-ltb k c.line_len-count.result (rw (count g at) less)) in
-    let taken = taken-is pat p line r.size r.line_in wide cells c.line.ensures.cells c.line-2.ensures.cells d inside lw lb white black in (
+    let taken = taken-is pat p line r.size r.line_in wide cells _ _ (bits kept.white) (bits kept.black) c.line.ensures.cells c.line-2.ensures.cells d inside lw lb white black in (
       left ∙ taken,
-      rw left (left-alive pat p line r.size r.line_in wide cells c.line.ensures.cells c.line-2.ensures.cells d inside lw lb white black r.alive whole),
-      λ k. rw left (lost-at pat p line r.size r.line_in wide cells c.line.ensures.cells c.line-2.ensures.cells d inside lw lb white black (bits c.either-2.result) c.either-2.ensures k),
+      rw left (left-alive pat p line r.size r.line_in wide cells _ _ (bits kept.white) (bits kept.black) c.line.ensures.cells c.line-2.ensures.cells d inside lw lb white black r.alive whole),
+      λ k. rw left (lost-at pat p line r.size r.line_in wide cells _ _ (bits kept.white) (bits kept.black) c.line.ensures.cells c.line-2.ensures.cells d inside lw lb white black (bits c.either-2.result) c.either-2.ensures k),
     )

@@ -1,12 +1,12 @@
-use Rattle.pattern_core.proofs.Common.{along, and_parts, any_below-same, ap, arith, led, length, sets_by, slots_of, sym, ◌&&◌, ◌<◌, ◌∙◌}
-use Rattle.pattern_core.proofs.LineWords.{both-ways, length-sets, sets-are, sets-at, shown-more, shown-none}
+use Rattle.pattern_core.proofs.Common.{along, any_below-same, ap, arith, led, length, sets_by, slots_of, subst, sym, ◌&&◌, ◌<◌, ◌∙◌, ◌≡◌}
+use Rattle.pattern_core.proofs.LineWords.{IsCellShown, IsShownTo, both-ways, length-sets, sets-at, sets-bit, shown-kept, shown-more, shown-none}
 use Rattle.pattern_core.proofs.TableSteps.{leads_black, leads_white, reached_first, reached_next, row_next, shown_at}
 use Rattle.pattern_core.proofs.planes.filter.Cells.keep.Goals as goal
 
 pub loop-at-init : goal.loop-at-init
 loop-at-init g c = (
-  shown-none _ _ _ c.none-white.ensures,
-  shown-none _ _ _ c.none-black.ensures,
+  shown-none _ _ c.none-white.ensures,
+  shown-none _ _ c.none-black.ensures,
   reached_first _ c.requires.below.first c.first-reached.ensures,
 )
 
@@ -19,16 +19,15 @@ loop-at-preserved g c =
     let ways = c.ways_of-ways.result in let row = c.index-rows-at.result in
     let i = c.loop-at.invariant in let long = length-sets white black c.args.count in
     let lt : at < length sets = omega (arith, c.loop-at-test.true, long) in
-    let read = sets-are white black c.args.count in
     let after = row_next has t sets c.args.rows.now 0 at row c.requires.rows (omega arith) lt c.index-rows-at.is in
     let below = c.requires.below in
     let is_white = c.is_some.ensures ∙ any_below-same _ (λ p. has ways.white p && has row p) room (λ p low. c.both.ensures p)
     ∙ leads_white room t sets (has c.loop-at.reached) at i.2 lt (has row) after (has ways.white) below c.ways_of-ways.ensures.white in
     let is_black = c.is_some-in-loop-at.ensures ∙ any_below-same _ (λ p. has ways.black p && has row p) room (λ p low. c.both-in-loop-at.ensures p)
     ∙ leads_black room t sets (has c.loop-at.reached) at i.2 lt (has row) after (has ways.black) below c.ways_of-ways.ensures.black in (
-      shown-more _ _ white _ c.is_some.result at i.0 c.with_if-white.ensures (both-ways is_white (sym (read.white_is at lt))
+      shown-more _ _ (IsCellShown t white black c.args.count 0) c.is_some.result at i.0 c.with_if-white.ensures (both-ways is_white (sym (sets-bit white black c.args.count at 0 c.loop-at-test.true (omega arith)))
           ∙ sym (shown_at room t sets (has c.loop-at.reached) at i.2 lt (has row) after 0 (omega arith))),
-      shown-more _ _ black _ c.is_some-in-loop-at.result at i.1 c.with_if-black.ensures (both-ways is_black (sym (read.black_is at lt))
+      shown-more _ _ (IsCellShown t white black c.args.count 1) c.is_some-in-loop-at.result at i.1 c.with_if-black.ensures (both-ways is_black (sym (sets-bit white black c.args.count at 1 c.loop-at-test.true (omega arith)))
           ∙ sym (shown_at room t sets (has c.loop-at.reached) at i.2 lt (has row) after 1 (omega arith))),
       reached_next room t sets (has c.loop-at.reached) (has c.led_by-reached.result) at below lt
           (λ p low. c.led_by-reached.ensures p low ∙ ap (λ s. led t s (has c.loop-at.reached) p) (c.set.ensures ∙ sym (sets-at white black c.args.count at c.loop-at-test.true))) i.2,
@@ -36,10 +35,5 @@ loop-at-preserved g c =
 
 pub returns : goal.returns
 returns g c =
-    let i = c.loop-at.invariant in
-    record {
-      white_is = λ k lt. c.both-2.ensures k ∙ i.0.below k (omega (arith, c.loop-at-test.false));
-      black_is = λ k lt. c.both-3.ensures k ∙ i.1.below k (omega (arith, c.loop-at-test.false));
-      white_in = λ k on. (and_parts _ _ (sym (c.both-2.ensures k) ∙ on)).1;
-      black_in = λ k on. (and_parts _ _ (sym (c.both-3.ensures k) ∙ on)).1;
-    }
+    let i = c.loop-at.invariant in let all : c.loop-at.at ≡ c.args.count = omega (arith, c.loop-at-test.false) in
+    shown-kept _ _ _ _ _ _ _ _ (subst (IsShownTo _ _) all i.0) (subst (IsShownTo _ _) all i.1) c.both-2.ensures c.both-3.ensures
