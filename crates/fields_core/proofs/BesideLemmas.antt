@@ -1,5 +1,5 @@
 -- Cells beside each other.
-use Rattle.fields_core.proofs.Common.{AreDistinct, Bool, Extent, None, Option, Some, ap, arith, cases_eq, common_steps, cond, cond-true, distinct-append, div-lt_iff_lt-mul, div-mul-add, eq-eqb, eqb, eqb-true, false, has_place, if_there, inl, inr, le-leb, leb, leb-true, length, length-append, lt-ltb, ltb, ltb-true, mod-lt, mul-le-mul_right, or_cases, or_left, place-append, place-back, place-front, refl, step, steps, suc, sym, true, true≢false, zero, ℕ, ◌%◌, ◌*◌, ◌+◌, ◌-◌, ◌/◌, ◌<◌, ◌∙◌, ◌≡◌, ◌≤◌, ◌⊎◌}
+use Rattle.fields_core.proofs.Common.{AreDistinct, Bool, Extent, None, Option, Some, ap, arith, cases_eq, common_steps, cond, cond-true, distinct-append, div-lt_iff_lt-mul, div-mul-add, eq-eqb, eqb-true, false, has_place, if_there, inl, inr, le-leb, leb, leb-true, length, length-append, lt-ltb, ltb, ltb-true, mod-lt, mul-le-mul_right, or_cases, or_left, place-append, place-back, place-front, refl, step, steps, suc, sym, true, true≢false, zero, ℕ, ◌%◌, ◌*◌, ◌+◌, ◌-◌, ◌/◌, ◌<◌, ◌∙◌, ◌≡◌, ◌≤◌, ◌⊎◌}
 
 -- The cells beside a cell are different.
 pub some-inj : {x y : ℕ} → Some x ≡ Some y → x ≡ y

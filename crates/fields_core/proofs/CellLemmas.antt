@@ -1,5 +1,5 @@
 -- Pieces of lines, words of rows, and the cells that they have.
-use Rattle.fields_core.proofs.Common.{AreDistinct, AreRowsOf, Bool, Column, Extent, IsHouse, IsHouseOf, IsRowOf, Layers, Line, List, Piece, Row, [], and-false, and_from, and_parts, any_below, ap, arith, at_line, bit_of, cases_Bool, cases_eq, cases_lt, column_places, common_steps, cond, count_below, count_below-none, count_below-same, count_by, crosses, div-add-mod', div-mul-add, eq-eqb, eqb, eqb-true, exactly, false, false_from_ne_true, get_or, get_or-map, get_or-map-range_with_len, get_or-set_other, get_or-set_same, has, has_bit, has_place, has_place-at, has_place-here, inl, inr, le-ltb, length, length-map, length-map-range_with_len, lies_in, lies_in_first, line_len, lines_beside, list_any-append, lt-ltb, ltb, ltb-true, map, map-set, mod-lt, ne_eqb, number_of, or-false, or-true, place-column, refl, row_places, set, slice_index, suc, sum_by-cons, sym, true, true≢false, zero, ℕ, ◌%◌, ◌&&◌, ◌*◌, ◌++◌, ◌+◌, ◌/◌, ◌<◌, ◌||◌, ◌∙◌, ◌∷◌, ◌≡◌, ◌≢◌, ◌≤◌, ◌⊎◌}
+use Rattle.fields_core.proofs.Common.{AreDistinct, AreRowsOf, Bool, Column, Extent, IsHouse, IsHouseOf, IsRowOf, Layers, Line, List, Row, ℕ, [], and-false, and_from, and_parts, any_below, ap, arith, at_line, bit_of, cases_Bool, cases_eq, cases_lt, column_places, common_steps, cond, count_below, count_below-none, count_below-same, count_by, crosses, div-add-mod', div-mul-add, eq-eqb, eqb, eqb-true, exactly, false, false_from_ne_true, get_or, get_or-map, get_or-map-range_with_len, get_or-set_other, get_or-set_same, has, has_bit, has_place, has_place-at, has_place-here, inl, inr, le-ltb, length, length-map, length-map-range_with_len, lies_in, lies_in_first, line_len, lines_beside, list_any-append, lt-ltb, ltb, ltb-true, map, map-set, mod-lt, ne_eqb, number_of, or-false, or-true, place-column, range_with_len, refl, row_places, set, slice_index, suc, sum_by-cons, sym, true, true≢false, zero, ◌%◌, ◌&&◌, ◌*◌, ◌++◌, ◌+◌, ◌/◌, ◌<◌, ◌||◌, ◌∙◌, ◌∷◌, ◌≡◌, ◌≢◌, ◌≤◌, ◌⊎◌}
 
 -- Pieces of lines, and the cells that they have.
 -- ---- one piece
@@ -15,67 +15,40 @@ cell-is w y x c lt = same-truth _ _
     let parts = and_parts _ _ on in let q = eqb-true (c / w) y parts.0 in
     let r = eqb-true (c % w) x parts.1 in eq-eqb _ _ (rw (← q, ← r) (div-add-mod' c w)))
 
-lies-one : (w : ℕ) (piece : Piece) (c : ℕ) → lies_in_first w (piece ∷ []) 1 c ≡ lies_in w piece c
-unfolding lies_in_first any_below
-lies-one w piece c = refl
+-- the cells of a line are those at its places
+pub place-on : (cell : ℕ → ℕ) (n c : ℕ) → has_place (map cell (range_with_len 0 n)) c ≡ true → (k : ℕ) × (k < n) × (cell k ≡ c)
+place-on cell n c there =
+    let w = has_place-at (map cell (range_with_len 0 n)) c there in
+    let lt : w.0 < n = omega (arith, w.1, length-map-range_with_len cell 0 n) in
+    (w.0, lt, sym (get_or-map-range_with_len cell 0 n w.0 w.0 0 lt (omega arith)) ∙ w.2)
 
-column-has : (size : Extent) {x : ℕ} (bits c : ℕ) → x < size.w → ((k : ℕ) → has_bit bits k ≡ ltb k size.h)
-    → has_place (column_places size x) c ≡ lies_in size.w (record { line = Column x; bits = bits }) c
-unfolding lies_in crosses
-column-has size {x} bits c lt is = same-truth _ _
-    (λ there.
-    let w = has_place-at (column_places size x) c there in
-    let lk : w.0 < size.h = omega (arith, w.1, length-map-range_with_len (λ y. y * size.w + x) 0 size.h) in
-    let at : w.0 * size.w + x ≡ c = sym (get_or-map-range_with_len (λ y. y * size.w + x) 0 size.h w.0 w.0 0 lk
-    (omega arith)) ∙ w.2 in
-    rw (← at, div-mul-add w.0 size.w x lt, place-column size.w w.0 x lt)
-    (and_from _ _ (eq-eqb x x refl) (is w.0 ∙ lt-ltb _ _ lk)))
-    (λ on.
-    let w = and_parts _ _ on in let e : c % size.w ≡ x = eqb-true _ _ w.0 in
-    let lk = ltb-true _ _ (sym (is (c / size.w)) ∙ w.1) in
-    let at : slice_index (column_places size x) (c / size.w) ≡ c = get_or-map-range_with_len
-    (λ y. y * size.w + x) 0 size.h (c / size.w) (c / size.w) 0 lk (omega arith) ∙ rw (← e) (div-add-mod' c size.w) in
-    rw at at (has_place-here (column_places size x) (c / size.w)
-    (omega (arith, lk, length-map-range_with_len (λ y. y * size.w + x) 0 size.h))))
+line-has : (cell : ℕ → ℕ) (n c k : ℕ) {on : Bool} → (on ≡ true → (k < n) × (cell k ≡ c)) → ((j : ℕ) → j < n → cell j ≡ c → on ≡ true)
+    → has_place (map cell (range_with_len 0 n)) c ≡ on
+line-has cell n c k from to = same-truth _ _ (λ there. let w = place-on cell n c there in to w.0 w.1 w.2) (λ on.
+    let w = from on in let at = get_or-map-range_with_len cell 0 n k k 0 w.0 (omega arith) ∙ w.1 in
+    rw at at (has_place-here (map cell (range_with_len 0 n)) k (omega (arith, w.0, length-map-range_with_len cell 0 n))))
 
-row-has : (size : Extent) (y bits c : ℕ) → 0 < size.w → ((k : ℕ) → k < size.w → has_bit bits k ≡ true)
-    → has_place (row_places size y) c ≡ lies_in size.w (record { line = Row y; bits = bits }) c
-unfolding lies_in crosses
-row-has size y bits c pos is = same-truth _ _
-    (λ there.
-    let w = has_place-at (row_places size y) c there in
-    let lk : w.0 < size.w = omega (arith, w.1, length-map-range_with_len (λ x. y * size.w + x) 0 size.w) in
-    let at : y * size.w + w.0 ≡ c = sym (get_or-map-range_with_len (λ x. y * size.w + x) 0 size.w w.0 w.0 0 lk
-    (omega arith)) ∙ w.2 in
-    rw (← at, div-mul-add y size.w w.0 lk, place-column size.w y w.0 lk)
-    (and_from _ _ (eq-eqb y y refl) (is w.0 lk)))
-    (λ on.
-    let w = and_parts _ _ on in let e : c / size.w ≡ y = eqb-true _ _ w.0 in
-    let lk : c % size.w < size.w = mod-lt c pos in
-    let at : slice_index (row_places size y) (c % size.w) ≡ c = get_or-map-range_with_len
-    (λ x. y * size.w + x) 0 size.w (c % size.w) (c % size.w) 0 lk (omega arith) ∙ rw (← e) (div-add-mod' c size.w) in
-    rw at at (has_place-here (row_places size y) (c % size.w)
-    (omega (arith, lk, length-map-range_with_len (λ x. y * size.w + x) 0 size.w))))
+-- a line as a piece
+line-house : (size : Extent) {line : Line} {bits ones : ℕ} {places : List ℕ} → ((c : ℕ) → has_place places c ≡ crosses line bits (c / size.w) (c % size.w))
+    → IsHouse (size.w * size.h) (exactly ones places) → IsHouseOf size (record { line = line; bits = bits } ∷ []) ones ones (exactly ones places)
+unfolding lies_in_first any_below lies_in
+line-house size cells house = record { is = house; least_is = refl; most_is = refl; cells = cells }
 
 pub column-house : (size : Extent) {x : ℕ} (bits ones : ℕ) → x < size.w → ((k : ℕ) → has_bit bits k ≡ ltb k size.h)
     → IsHouse (size.w * size.h) (exactly ones (column_places size x))
     → IsHouseOf size (record { line = Column x; bits = bits } ∷ []) ones ones (exactly ones (column_places size x))
-column-house size {x} bits ones lt is house = record {
-  is = house;
-  least_is = refl;
-  most_is = refl;
-  cells = λ c. column-has size bits c lt is ∙ sym (lies-one size.w (record { line = Column x; bits = bits }) c);
-}
+unfolding crosses
+column-house size {x} bits ones lt is house = line-house size (λ c. line-has (λ y. y * size.w + x) size.h c (c / size.w)
+    (λ on. let w = and_parts _ _ on in (ltb-true _ _ (sym (is (c / size.w)) ∙ w.1), rw (← eqb-true (c % size.w) x w.0) (div-add-mod' c size.w)))
+    (λ j less at. rw (← at, div-mul-add j size.w x lt, place-column size.w j x lt) (and_from _ _ (eq-eqb x x refl) (is j ∙ lt-ltb _ _ less)))) house
 
 pub row-house : (size : Extent) (y bits ones : ℕ) → 0 < size.w → ((k : ℕ) → k < size.w → has_bit bits k ≡ true)
     → IsHouse (size.w * size.h) (exactly ones (row_places size y))
     → IsHouseOf size (record { line = Row y; bits = bits } ∷ []) ones ones (exactly ones (row_places size y))
-row-house size y bits ones pos is house = record {
-  is = house;
-  least_is = refl;
-  most_is = refl;
-  cells = λ c. row-has size y bits c pos is ∙ sym (lies-one size.w (record { line = Row y; bits = bits }) c);
-}
+unfolding crosses
+row-house size y bits ones pos is house = line-house size (λ c. line-has (λ x. y * size.w + x) size.w c (c % size.w)
+    (λ on. let w = and_parts _ _ on in (mod-lt c pos, rw (← eqb-true (c / size.w) y w.0) (div-add-mod' c size.w)))
+    (λ j less at. rw (← at, div-mul-add y size.w j less, place-column size.w y j less) (and_from _ _ (eq-eqb y y refl) (is j less)))) house
 
 -- ---- places in two lists
 pub has-append : (xs ys : List ℕ) (c : ℕ) → has_place (xs ++ ys) c ≡ (has_place xs c || has_place ys c)

@@ -27,6 +27,15 @@ unfolding houses_below
 all-houses P f zero each = tt
 all-houses P f (suc n) each = all-append P (houses_below f n) (f n) (all-houses P f n (λ k lt. each k (omega arith))) (each n (omega arith))
 
+pub all-if : (P : CountHouse → Type 0) {b : Bool} {house : CountHouse} → (b ≡ true → P house) → AllByRecursion P (cond b (house ∷ []) [])
+all-if P {b = true} is = (is refl, tt)
+all-if P {b = false} is = tt
+
+pub all-at : (P : CountHouse → Type 0) (houses : List CountHouse) {h : ℕ} → AllByRecursion P houses → h < length houses → P (count_house_of houses h)
+all-at P [] all lt = absurd (omega arith)
+all-at P (house ∷ houses) {h = zero} all lt = all.0
+all-at P (house ∷ houses) {h = suc h} all lt = all-at P houses all.1 (omega arith)
+
 -- Houses told by segments, and names of houses.
 -- ---- the cells of a segment
 pub segment-long : (s : Segment) → s.len ≡ length (segment_places s)

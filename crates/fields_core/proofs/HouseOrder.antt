@@ -270,17 +270,17 @@ module _ {cells : ℕ} {Is : CountHouse → Type 0} (quiet : AreQuiet cells Is) 
     those : AllByRecursion Is (houses_below f m)
     those = all-houses Is f m (λ k lt. each k (omega arith))
 
-    full : IsFull cells (has from)
-    full = alive-full from size alive
+    before : IsFull cells (has from)
+    before = alive-full from size alive
 
     after : IsFull cells (after_houses (houses_below f m) (has from))
     after = rw (visited.left refl) at (alive-full {cells = cells} to (rw (visited.further.same_size) size) visited.alive)
 
     pub quiet-stays : (others : List CountHouse) → AllByRecursion Is others → AreIdle others (has from) → AreIdle others (has to)
-    quiet-stays others each_other idle = rw (visited.left refl) (list-kept quiet others (houses_below f m) (has from) each_other those full after idle)
+    quiet-stays others each_other idle = rw (visited.left refl) (list-kept quiet others (houses_below f m) (has from) each_other those before after idle)
 
     pub quiet-done : (k : ℕ) → k < m → AreIdle (f k) (has to)
-    quiet-done k lt = idle-one f (has to) lt (rw (visited.left refl) (list-settled quiet (houses_below f m) (has from) those full after))
+    quiet-done k lt = idle-one f (has to) lt (rw (visited.left refl) (list-settled quiet (houses_below f m) (has from) those before after))
 
 -- one list
 pub quiet-one : {cells : ℕ} {Is : CountHouse → Type 0} → AreQuiet cells Is → (houses : List CountHouse) → AllByRecursion Is houses

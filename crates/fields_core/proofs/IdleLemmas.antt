@@ -1,6 +1,6 @@
 -- Houses that are idle: one by one, in parts of a list, and by lines.
 use Rattle.fields_core.proofs.Common.{AllByRecursion, AreDifferent, AreIdle, ArePlanesAlive, AreVisited, Bool, Candidates, CountHouse, IsClosed, IsInside, IsLeast, Layers, List, [], after_house, after_houses, and_parts, any_below, any_below-here, any_below-none, any_below-some, ap, append_assoc, arith, by_fillings-monotone, by_fillings-settled, cases_Bool, cases_eq, cases_lt, common_steps, count_below, count_below-lt, count_house_of, count_puzzle, counts_between, eq-eqb, eqb, false, false_from_ne_true, fun_ext, further-none, get_or-append_seam, has, has_place, houses_below, inl, inr, le-ltb, length, length-append, list_any, list_any-append, lt-ltb, ltb, ne_eqb, no_count_house, not, not-true, or_cases, refl, strikes_at-inside, strikes_of, suc, sym, true, true≢false, zero, ℕ, ◌&&◌, ◌++◌, ◌+◌, ◌-◌, ◌<◌, ◌||◌, ◌∙◌, ◌∷◌, ◌≡◌, ◌≤◌, ◌⊎◌}
-use Rattle.fields_core.proofs.VisitLemmas.{IsFull, after-inside, below-rest, others-stay, sweep-broken, sweep-first, sweep-more, visits-append, visits-inside}
+use Rattle.fields_core.proofs.VisitLemmas.{IsFull, after-inside, below-rest, others-stay, sweep-broken, sweep-first, sweep-more, visited-left, visits-append, visits-inside}
 use Rattle.fields_core.proofs.HouseLemmas.{below-more}
 
 -- Houses whose visits take nothing, which stay idle while others of their kind are visited, and boards that have changed far from them.
@@ -67,12 +67,7 @@ idle-far (house ∷ houses) K L inside far idle =
 
 -- a visit of idle houses takes nothing
 pub visited-idle : (houses : List CountHouse) {p : Layers} → ArePlanesAlive p → AreIdle houses (has p) → AreVisited houses p p true
-visited-idle houses {p} alive idle = record {
-  left = λ _. sym idle;
-  dies = λ e. absurd (true≢false e);
-  alive = alive;
-  further = further-none p;
-}
+visited-idle houses {p} alive idle = visited-left (sym idle) alive (further-none p)
 
 -- ---- a list among others
 pub any-append : (front back : List CountHouse) (c : ℕ) → any_has (front ++ back) c ≡ (any_has front c || any_has back c)
@@ -96,17 +91,17 @@ unfolding any_has
 any-one house c on = grind (arith, common_steps, cases_Bool (has_place house.places c))
 
 -- visits of idle lists go on to further ones
-pub below-more : (f : ℕ → List CountHouse) {from to : Layers} (n d : ℕ) → AreVisited (houses_below f n) from to true
+visited-further : (f : ℕ → List CountHouse) {from to : Layers} (n d : ℕ) → AreVisited (houses_below f n) from to true
     → ((k : ℕ) → n ≤ k → k < n + d → AreIdle (f k) (has to)) → AreVisited (houses_below f (n + d)) from to true
-below-more f n zero visited idle = let e : n + 0 ≡ n = omega arith in rw e visited
-below-more f {from} {to} n (suc d) visited idle =
-    let e : n + suc d ≡ n + d + 1 = omega arith in let less = below-more f n d visited (λ k le lt. idle k le (omega arith)) in
+visited-further f n zero visited idle = let e : n + 0 ≡ n = omega arith in rw e visited
+visited-further f {from} {to} n (suc d) visited idle =
+    let e : n + suc d ≡ n + d + 1 = omega arith in let less = visited-further f n d visited (λ k le lt. idle k le (omega arith)) in
     rw e (sweep-more f less (visited-idle (f (n + d)) less.alive (idle (n + d) (omega arith) (omega arith))) refl)
 
 pub visited-skip : (f : ℕ → List CountHouse) {from to : Layers} {n m : ℕ} → n ≤ m → AreVisited (houses_below f n) from to true
     → ((k : ℕ) → n ≤ k → k < m → AreIdle (f k) (has to)) → AreVisited (houses_below f m) from to true
 visited-skip f {from} {to} {n} {m} le visited idle =
-    let e : n + (m - n) ≡ m = omega arith in rw e at (below-more f n (m - n) visited (λ k at lt. idle k at (omega arith)))
+    let e : n + (m - n) ≡ m = omega arith in rw e at (visited-further f n (m - n) visited (λ k at lt. idle k at (omega arith)))
 
 -- a second visit of a house takes nothing
 house-settled : (house : CountHouse) (K : Candidates) → AreDifferent house.places → after_house house (after_house house K) ≡ after_house house K

@@ -1,5 +1,5 @@
 -- The houses of Light Up, its tests, and which bulbs a cell sees.
-use Rattle.fields_core.proofs.Common.{AreDistinct, Bool, CountHouse, Extent, IsGrid, IsHouse, Light, List, [], all_below, all_below-at, all_below-from, and_from, and_parts, ap, arith, begins_column_run, begins_row_run, black_right, bulb, bulb_right, cases_Bool, cases_eq, cases_lt, clear, column-at, column_places, column_run, common_steps, cond, count_by, count_house_of, different-from, distinct-from, div-eq_of_lt, div-lt_iff_lt-mul, eq-eqb, eqb, eqb-true, false, false_from_ne_true, filter, filter_agree, get_or_past, has_place, houses_below, inl, inr, joined_in_column, joined_in_row, le-leb, length, light_cells, lit_right, lt-ltb, ltb, ltb-true, max, meets, min, mod-lt, mul-le-mul_right, not, not-false, number_right, or_cases, or_left, or_parts, or_right, refl, row-at, row_places, row_run, slice_index, solves_lights, suc, sym, true, true≢false, white, zero, ℕ, ◌%◌, ◌*◌, ◌++◌, ◌+◌, ◌-◌, ◌/◌, ◌<◌, ◌||◌, ◌∙◌, ◌∷◌, ◌≡◌, ◌≤◌}
+use Rattle.fields_core.proofs.Common.{AreDistinct, Bool, CountHouse, Extent, IsGrid, IsHouse, Light, List, all_below, all_below-at, all_below-from, and_from, and_parts, ap, arith, begins_column_run, begins_row_run, black_right, bulb, bulb_right, cases_Bool, cases_eq, cases_lt, clear, column-at, column_places, column_run, common_steps, count_by, different-from, distinct-from, div-eq_of_lt, div-lt_iff_lt-mul, eq-eqb, eqb, eqb-true, false, false_from_ne_true, filter, filter_agree, get_or_past, has_place, inl, inr, joined_in_column, joined_in_row, le-leb, length, light_cells, lit_right, lt-ltb, ltb, ltb-true, max, meets, min, mod-lt, mul-le-mul_right, not, not-false, number_right, or_cases, or_left, or_parts, or_right, row-at, row_places, row_run, slice_index, solves_lights, sym, true, true≢false, white, ℕ, ◌%◌, ◌*◌, ◌+◌, ◌-◌, ◌/◌, ◌<◌, ◌||◌, ◌∙◌, ◌≡◌, ◌≤◌}
 use Rattle.fields_core.proofs.HouseLemmas.{column-long, row-long}
 use Rattle.fields_core.proofs.BesideLemmas.{cell-below, cell-parts, whole-cell}
 use Rattle.fields_core.proofs.PlaceLists.{ones-bulbs}
@@ -46,31 +46,6 @@ pub some-column : (p : Light) {c : ℕ} → c < light_cells p → 0 < p.size.w
 some-column p lt = grind (arith, common_steps)
 
 -- The houses of Light Up are houses, and each solution meets them.
--- ---- what holds of each house of a list
-abbrev pub EachOf : (CountHouse → Type 0) → List CountHouse → Type 0
-EachOf P houses = (h : ℕ) → h < length houses → P (count_house_of houses h)
-
-pub each-none : (P : CountHouse → Type 0) → EachOf P []
-each-none P h lt = absurd (omega arith)
-
-pub each-one : (P : CountHouse → Type 0) (house : CountHouse) → P house → EachOf P (house ∷ [])
-each-one P house is zero lt = is
-each-one P house is (suc h) lt = absurd (omega arith)
-
-pub each-append : (P : CountHouse → Type 0) (xs ys : List CountHouse) → EachOf P xs → EachOf P ys → EachOf P (xs ++ ys)
-each-append P [] ys ex ey h lt = ey h lt
-each-append P (x ∷ xs) ys ex ey zero lt = ex 0 (omega arith)
-each-append P (x ∷ xs) ys ex ey (suc h) lt = each-append P xs ys (λ k l. ex (suc k) (omega arith)) ey h (omega arith)
-
-pub each-below : (P : CountHouse → Type 0) (f : ℕ → List CountHouse) (n : ℕ) → ((c : ℕ) → c < n → EachOf P (f c)) → EachOf P (houses_below f n)
-unfolding houses_below
-each-below P f zero each = each-none P
-each-below P f (suc n) each = each-append P _ (f n) (each-below P f n (λ c lt. each c (omega arith))) (each n (omega arith))
-
-pub each-if : (P : CountHouse → Type 0) (b : Bool) (house : CountHouse) → (b ≡ true → P house) → EachOf P (cond b (house ∷ []) [])
-each-if P true house is = each-one P house (is refl)
-each-if P false house is = each-none P
-
 -- ---- a house of the board that each solution meets
 pub record IsMet (cells : ℕ) (good : List ℕ → Bool) (house : CountHouse) : Type 0 where
   pub is_house : IsHouse cells house

@@ -1,6 +1,6 @@
 -- Visits of the numbers of Light Up on planes.
-use Rattle.fields_core.proofs.Common.{ArePieces, ArePlanesAlive, AreVisited, Black, Bool, Column, Extent, IsBroken, IsColumnOf, IsFurther, IsHouse, IsHouseOf, IsLight, Layers, Light, List, Numbered, Piece, Row, [], after_house, after_houses, and-false, and_from, and_parts, any_below, any_below-none, any_below-some, arith, beside, cases_Bool, cases_eq, cases_lt, common_steps, crosses, div-mul-add, eq-eqb, eqb, eqb-true, exactly, false, filter, fun_ext, further-none, get_or, get_or-set_other, get_or-set_same, has, has_bit, has_place, inl, inr, le-ltb, length, length-map, lies_in, lies_in_first, light_cells, light_houses, lines_beside, lt-ltb, ltb, ltb-true, map, map-set, ne_eqb, not, number_house, number_of, or_cases, or_left, or_parts, or_right, piece_at, place-column, place-in, refl, set, slice_index, subst, suc, sym, true, true≢false, white, zero, ℕ, ◌%◌, ◌&&◌, ◌*◌, ◌+◌, ◌-◌, ◌/◌, ◌<◌, ◌||◌, ◌∙◌, ◌∷◌, ◌≡◌, ◌≤◌}
-use Rattle.fields_core.proofs.VisitLemmas.{among-below, among-front, among-house, among-one, others-stay, visited-none}
+use Rattle.fields_core.proofs.Common.{ArePieces, ArePlanesAlive, AreVisited, Black, Bool, Column, Extent, IsBroken, IsColumnOf, IsFurther, IsHouse, IsHouseOf, IsLight, Layers, Light, List, Numbered, Piece, Row, [], after_house, after_houses, and-false, and_from, and_parts, any_below, any_below-none, any_below-some, arith, beside, cases_Bool, cases_eq, cases_lt, common_steps, crosses, div-mul-add, eq-eqb, eqb, eqb-true, exactly, false, filter, fun_ext, further-none, get_or, get_or-set_other, get_or-set_same, has, has_bit, has_place, inl, inr, le-ltb, length, length-map, lies_in, lies_in_first, light_cells, light_houses, lines_beside, lt-ltb, ltb, ltb-true, map, map-set, ne_eqb, not, number_house, number_of, or_cases, or_left, or_parts, or_right, piece_at, place-column, place-in, refl, set, slice_index, subst, suc, sym, true, white, zero, ℕ, ◌%◌, ◌&&◌, ◌*◌, ◌+◌, ◌-◌, ◌/◌, ◌<◌, ◌||◌, ◌∙◌, ◌∷◌, ◌≡◌, ◌≤◌}
+use Rattle.fields_core.proofs.VisitLemmas.{among-below, among-front, among-house, among-one, others-stay, visited-dies, visited-left, visited-none}
 use Rattle.fields_core.proofs.CellLemmas.{cell-is, same-truth}
 use Rattle.fields_core.proofs.LightRuleLemmas.{light-counting}
 use Rattle.fields_core.proofs.BesideLemmas.{whole-cell}
@@ -96,6 +96,17 @@ beside-word {n} {room} a both near word passes fits both_is near_is word_is k = 
   | inr high ↦ rw (word_is k, le-ltb k n (omega arith), and-false (has_bit near k), and-false (eqb k (a + 1) || eqb a (k + 1))) refl
 ]
 
+-- of a line those of the cells beside one that pass
+part-is : {n a d : ℕ} (line at k bits : ℕ) (cell : ℕ → ℕ) (passes : ℕ → Bool) → a < n → IsBeside n (λ k. passes (cell k)) a bits → (line ≡ at → cell k ≡ d)
+    → ((eqb line at && next_to n a k) && passes d) ≡ (eqb line at && has_bit bits k)
+part-is {n} {a} {d} line at k bits cell passes lt is here = elim (cases_eq line at) [
+  | inl same ↦ rw (eq-eqb _ _ same, next-is k lt, is k, here same) (by _ (ltb k n) (passes d))
+  | inr ne ↦ rw (ne_eqb _ _ ne) refl
+]
+  where
+    by : (a b c : Bool) → ((true && (a && b)) && c) ≡ (true && (a && (b && c)))
+    by a b c = grind (arith, common_steps, cases_Bool a, cases_Bool b)
+
 pub lies-both : (w y x row column d : ℕ) → lies_in_first w (both_pieces y x row column) 2 d
     ≡ ((eqb (d / w) y && has_bit row (d % w)) || (eqb (d % w) x && has_bit column (d / w)))
 unfolding lies_in_first any_below lies_in crosses
@@ -147,26 +158,10 @@ module _ (p : Light) (lawful : IsLight p) (y x row column : ℕ) (y_in : y < p.s
   cell_in = place-in p.size.w p.size.h y x y_in x_in
 
   row-part : (d : ℕ) → ((eqb (d / p.size.w) y && next_to p.size.w x (d % p.size.w)) && white p d) ≡ (eqb (d / p.size.w) y && has_bit row (d % p.size.w))
-  row-part d = elim (cases_eq (d / p.size.w) y) [
-    | inl same ↦
-        let at : y * p.size.w + d % p.size.w ≡ d = rw (← same) (sym (whole-cell p.size.w d)) in
-        rw (eq-eqb _ _ same, next-is (d % p.size.w) x_in, row_is (d % p.size.w), at) (by _ (ltb (d % p.size.w) p.size.w) (white p d))
-    | inr ne ↦ rw (ne_eqb _ _ ne) refl
-  ]
-    where
-      by : (a b c : Bool) → ((true && (a && b)) && c) ≡ (true && (a && (b && c)))
-      by a b c = grind (arith, common_steps, cases_Bool a, cases_Bool b)
+  row-part d = part-is (d / p.size.w) y (d % p.size.w) row (λ k. y * p.size.w + k) (white p) x_in row_is (λ same. rw (← same) (sym (whole-cell p.size.w d)))
 
   column-part : (d : ℕ) → ((eqb (d % p.size.w) x && next_to p.size.h y (d / p.size.w)) && white p d) ≡ (eqb (d % p.size.w) x && has_bit column (d / p.size.w))
-  column-part d = elim (cases_eq (d % p.size.w) x) [
-    | inl same ↦
-        let at : d / p.size.w * p.size.w + x ≡ d = rw (← same) (sym (whole-cell p.size.w d)) in
-        rw (eq-eqb _ _ same, next-is (d / p.size.w) y_in, column_is (d / p.size.w), at) (by _ (ltb (d / p.size.w) p.size.h) (white p d))
-    | inr ne ↦ rw (ne_eqb _ _ ne) refl
-  ]
-    where
-      by : (a b c : Bool) → ((true && (a && b)) && c) ≡ (true && (a && (b && c)))
-      by a b c = grind (arith, common_steps, cases_Bool a, cases_Bool b)
+  column-part d = part-is (d % p.size.w) x (d / p.size.w) column (λ k. k * p.size.w + x) (white p) y_in column_is (λ same. rw (← same) (sym (whole-cell p.size.w d)))
 
   places-are : (d : ℕ) → has_place places d ≡ lies_in_first p.size.w pieces 2 d
   places-are d =
@@ -186,12 +181,7 @@ module _ (p : Light) (lawful : IsLight p) (y x row column : ℕ) (y_in : y < p.s
     pub number-filled : {to : Layers} → has to ≡ after_house (exactly n places) (has from) → ArePlanesAlive to → IsFurther from to
         → AreVisited (number_house p cell) from to true
     unfolding after_houses
-    number-filled {to} left alive further = rw numbered (record {
-      left = λ _. left;
-      dies = λ e. absurd (true≢false e);
-      alive = alive;
-      further = further;
-    })
+    number-filled {to} left alive further = rw numbered (visited-left left alive further)
 
     -- a house that has no filling, if it has a cell
     pub number-short : {room : ℕ} (both : ℕ) {to : Layers} {any : Bool} → p.size.w ≤ room → p.size.h ≤ room
@@ -202,18 +192,10 @@ module _ (p : Light) (lawful : IsLight p) (y x row column : ℕ) (y_in : y < p.s
       | inl on ↦
           let w = shown (any_below-some (has_bit both) room (sym any_is ∙ on)) in
           let there = places-are w.0 ∙ lies-both p.size.w y x row column w.0 ∙ w.1 in
-          rw on (record {
-            left = λ e. absurd (true≢false (sym e));
-            dies = λ _. (w.0, rw size (house_is.within w.0 there), λ v low. broken w.0 v there low);
-            alive = alive;
-            further = further-none from;
-          })
-      | inr off ↦ rw off (record {
-        left = λ _. fun_ext λ c. fun_ext λ v. sym (others-stay (exactly n places) (has from) c v (places-are c ∙ lies-both p.size.w y x row column c ∙ bare c (sym any_is ∙ off)));
-        dies = λ e. absurd (true≢false e);
-        alive = alive;
-        further = further-none from;
-      })
+          rw on (visited-dies w.0 (rw size (house_is.within w.0 there)) (λ v low. broken w.0 v there low) alive)
+      | inr off ↦ rw off (visited-left
+          (fun_ext λ c. fun_ext λ v. sym (others-stay (exactly n places) (has from) c v (places-are c ∙ lies-both p.size.w y x row column c ∙ bare c (sym any_is ∙ off))))
+          alive (further-none from))
     ])
       where
         shown : (k : ℕ) × (k < room) × (has_bit both k ≡ true) → (d : ℕ) × (((eqb (d / p.size.w) y && has_bit row (d % p.size.w)) || (eqb (d % p.size.w) x && has_bit column (d / p.size.w))) ≡ true)

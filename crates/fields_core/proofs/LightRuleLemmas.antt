@@ -1,8 +1,8 @@
 -- The rules of Light Up, as count houses and as the test of a grid.
-use Rattle.fields_core.proofs.Common.{AllByRecursion, AreDistinct, AreJoined, AreRight, Black, Bool, FailsLight, IsCounting, IsFromTo, IsGrid, IsKnown, IsLawful, IsLight, IsLightCell, IsLightFault, IsLightSolution, IsMade, Kind, Light, LightCell, LightFault, List, NoneFails, Numbered, Option, Sees, SeesBulb, White, [], all_below-at, all_below-from, and_from, and_parts, any_below-here, any_below-some, ap, arith, begins_column_run, begins_row_run, black_right, bulb, bulb_right, bulbs_beside, cases_eq, cases_lt, column_house, column_run, common_steps, count-lawful, count_by-le-length, distinct-append, distinct-filter, div-mul-add, div-mul-le_self, eq-eqb, eqb, eqb-true, exactly, false, filter, get_or, has_place, has_place-here, inl, inr, is_some, joined_in_column, joined_in_row, known_tests, le-div, length, length-append, light_cells, light_column, light_houses, light_row, light_rules, light_tests, lit_house, lit_right, max, min, mod-lt, mod-mul-add, mul-le-mul_right, ne_eqb, none_held, none_tells, not, not-false, not-true, number_house, number_is, number_right, one_at_least, one_at_most, or_cases, or_left, or_parts, or_right, place-append, place-back, place-filter, place-front, place-kept, refl, right_none, row_house, row_run, seen_from, sees, sees_bulb, slice_index, solves_lights, steps, suc, sym, true, true≢false, white, zero, ℕ, ◌%◌, ◌&&◌, ◌*◌, ◌++◌, ◌+◌, ◌/◌, ◌<◌, ◌||◌, ◌∙◌, ◌∷◌, ◌≡◌, ◌≤◌}
+use Rattle.fields_core.proofs.Common.{AllByRecursion, AreDistinct, AreJoined, AreRight, Black, Bool, FailsLight, IsCounting, IsFromTo, IsGrid, IsKnown, IsLawful, IsLight, IsLightCell, IsLightFault, IsLightSolution, IsMade, Kind, Light, LightCell, LightFault, List, NoneFails, Numbered, Option, Sees, SeesBulb, White, [], all_below-at, all_below-from, and_from, and_parts, any_below-here, any_below-some, ap, arith, black_right, bulb, bulb_right, bulbs_beside, cases_eq, cases_lt, column_house, column_run, common_steps, count-lawful, count_by-le-length, distinct-append, distinct-filter, div-mul-add, div-mul-le_self, eq-eqb, eqb, eqb-true, false, filter, get_or, has_place, has_place-here, inl, inr, is_some, joined_in_column, joined_in_row, known_tests, le-div, length, length-append, light_cells, light_column, light_houses, light_row, light_rules, light_tests, lit_house, lit_right, max, min, mod-lt, mod-mul-add, mul-le-mul_right, ne_eqb, none_held, none_tells, not, not-false, not-true, number_house, number_is, number_right, one_at_least, one_at_most, or_cases, or_left, or_parts, or_right, place-append, place-back, place-filter, place-front, place-kept, refl, right_none, row_house, row_run, seen_from, sees, sees_bulb, slice_index, solves_lights, steps, suc, sym, true, true≢false, white, zero, ℕ, ◌%◌, ◌&&◌, ◌*◌, ◌++◌, ◌+◌, ◌/◌, ◌<◌, ◌||◌, ◌∙◌, ◌∷◌, ◌≡◌, ◌≤◌}
 use Rattle.fields_core.specs.LightHouses.{numbered}
-use Rattle.fields_core.proofs.LightHouseLaws.{EachOf, IsMet, bulb-in, clear-at, clear-from, column-both, column-distinct, column-of, column-parts, column-white-end, each-append, each-below, each-if, each-none, each-one, lit-from, lit-parts, met-from, row-both, row-distinct, row-of, row-parts, row-self, row-white-end, some-column, white-in}
-use Rattle.fields_core.proofs.HouseLemmas.{column-long, row-long}
+use Rattle.fields_core.proofs.LightHouseLaws.{IsMet, bulb-in, clear-at, clear-from, column-both, column-distinct, column-of, column-parts, column-white-end, lit-from, lit-parts, met-from, row-both, row-distinct, row-of, row-parts, row-self, row-white-end, some-column, white-in}
+use Rattle.fields_core.proofs.HouseLemmas.{all-append, all-at, all-houses, all-if, column-long, row-long}
 use Rattle.fields_core.proofs.PlaceLists.{count-filter, count-one, count-some, filter-few}
 use Rattle.fields_core.proofs.BesideLemmas.{steps-distinct, steps-few}
 use Rattle.fields_core.specs.declared.light_up.fault.LightFault.TheVariants as fault
@@ -42,25 +42,28 @@ no-sight p {g} grid good d e bd be joined = elim (cases_eq d e) [
 ]
 
 -- ---- the houses of numbers
-number-kind : {p : Light} {c : ℕ} → IsBoard p → c < light_cells p → EachOf (IsMet (light_cells p) (solves_lights p)) (number_house p c)
+number-kind : {p : Light} {c : ℕ} → IsBoard p → c < light_cells p → AllByRecursion (IsMet (light_cells p) (solves_lights p)) (number_house p c)
 unfolding number_right
 number-kind {p} {c} board lt = by _ refl
   where
     places : List ℕ
     places = filter (white p) (steps p.size c 4)
 
-    by : (cell : LightCell) → get_or p.cells c Black ≡ cell → EachOf (IsMet (light_cells p) (solves_lights p))
+    by : (cell : LightCell) → get_or p.cells c Black ≡ cell → AllByRecursion (IsMet (light_cells p) (solves_lights p))
         (numbered cell (filter (white p) (steps p.size c 4)))
-    by White e = each-none (IsMet (light_cells p) (solves_lights p))
-    by Black e = each-none (IsMet (light_cells p) (solves_lights p))
-    by (Numbered n) e = each-one (IsMet (light_cells p) (solves_lights p)) (exactly n (filter (white p) (steps p.size c 4))) (met-from
-        (λ d on. white-in p d board.long (place-filter (white p) (steps p.size c 4) d on).1)
-        (distinct-filter (white p) (steps p.size c 4) (steps-distinct p.size c 4 board.some (omega arith)))
-        (let a = filter-few (white p) (steps p.size c 4) in let b = steps-few p.size c 4 in omega arith)
-        (let f = board.number c n e in omega arith) (let f = board.number c n e in omega arith) (λ g grid good.
-        let a = count-filter (bulb g) (white p) (steps p.size c 4) (bulb-white p g grid good) in
-        let b = eqb-true (bulbs_beside p g c) n (rw e at (all_below-at (number_right p g) (light_cells p) c (lit-parts p g good).number lt)) in
-        (omega arith, omega arith)))
+    by White e = tt
+    by Black e = tt
+    by (Numbered n) e = (
+      met-from
+          (λ d on. white-in p d board.long (place-filter (white p) (steps p.size c 4) d on).1)
+          (distinct-filter (white p) (steps p.size c 4) (steps-distinct p.size c 4 board.some (omega arith)))
+          (let a = filter-few (white p) (steps p.size c 4) in let b = steps-few p.size c 4 in omega arith)
+          (let f = board.number c n e in omega arith) (let f = board.number c n e in omega arith) (λ g grid good.
+          let a = count-filter (bulb g) (white p) (steps p.size c 4) (bulb-white p g grid good) in
+          let b = eqb-true (bulbs_beside p g c) n (rw e at (all_below-at (number_right p g) (light_cells p) c (lit-parts p g good).number lt)) in
+          (omega arith, omega arith)),
+      tt,
+    )
 
 -- ---- the houses of runs
 pub row-run-joined : (p : Light) (c d : ℕ) → has_place (row_run p c) d ≡ true → joined_in_row p c d ≡ true
@@ -165,22 +168,13 @@ lit-kind {p} {c} board lt on = met-from
       ]
     ]
 
-each-met : (p : Light) → IsBoard p → EachOf (IsMet (light_cells p) (solves_lights p)) (light_houses p)
+each-met : (p : Light) → IsBoard p → AllByRecursion (IsMet (light_cells p) (solves_lights p)) (light_houses p)
 unfolding light_houses
 each-met p board =
-    each-append (IsMet (light_cells p) (solves_lights p)) _ _
-    (each-below (IsMet (light_cells p) (solves_lights p)) (number_house p) (light_cells p) (λ c lt. number-kind board lt))
-    (each-append (IsMet (light_cells p) (solves_lights p)) _ _
-    (each-below (IsMet (light_cells p) (solves_lights p)) (row_house p) (light_cells p)
-    (λ c lt. each-if (IsMet (light_cells p) (solves_lights p)) (begins_row_run p c) _
-    (λ _. row-kind p c board)))
-    (each-append (IsMet (light_cells p) (solves_lights p)) _ _
-    (each-below (IsMet (light_cells p) (solves_lights p)) (column_house p) (light_cells p)
-    (λ c lt. each-if (IsMet (light_cells p) (solves_lights p)) (begins_column_run p c) _
-    (λ _. column-kind p c board)))
-    (each-below (IsMet (light_cells p) (solves_lights p)) (lit_house p) (light_cells p)
-    (λ c lt. each-if (IsMet (light_cells p) (solves_lights p)) (white p c) _
-    (λ on. lit-kind board lt on)))))
+    all-append _ _ _ (all-houses _ (number_house p) _ (λ c lt. number-kind board lt))
+    (all-append _ _ _ (all-houses _ (row_house p) _ (λ c _. all-if _ (λ _. row-kind p c board)))
+    (all-append _ _ _ (all-houses _ (column_house p) _ (λ c _. all-if _ (λ _. column-kind p c board)))
+    (all-houses _ (lit_house p) _ (λ c lt. all-if _ (lit-kind board lt)))))
 
 -- ---- a puzzle's board
 number-few : (cells : List LightCell) (c n : ℕ) → AllByRecursion IsLightCell cells → get_or cells c Black ≡ Numbered n → n ≤ 4
@@ -195,14 +189,14 @@ pub light-counting : {p : Light} → IsLight p → IsCounting (light_cells p) (�
 unfolding black_right
 light-counting {p} is = record {
   few_cells = let b = light-board is in omega (arith, mul-le-mul_right p.size.h b.w_few);
-  are_houses = λ h lt. (each-met p (light-board is) h lt).is_house;
+  are_houses = λ h lt. (all-at _ _ (each-met p (light-board is)) lt).is_house;
   blocked_zero =
       λ g grid good c lt blocked. elim (or_cases _ _
       (all_below-at _ _ c (lit-parts p g good).black lt)) [
         | inl on ↦ absurd (true≢false (sym on ∙ not-true _ blocked))
         | inr none ↦ eqb-true _ _ none
       ];
-  meets_each = λ g grid good h lt. (each-met p (light-board is) h lt).met g grid good;
+  meets_each = λ g grid good h lt. (all-at _ _ (each-met p (light-board is)) lt).met g grid good;
 }
 
 pub light-lawful : {p : Light} → IsLight p → IsLawful (light_rules p)

@@ -1,6 +1,6 @@
 -- The runs of one line, visited at once.
-use Rattle.fields_core.proofs.Common.{AllByRecursion, AreAround, ArePlanesAlive, AreRunsOf, AreVisited, Bool, CountHouse, Extent, IsClash, IsFurther, IsHouse, IsLeast, IsRunOf, Layers, Line, List, [], and-false, and-true, and_from, and_parts, any_below, any_below-here, any_below-none, any_below-some, ap, arith, at_line, cases_Bool, cases_eq, cases_lt, common_steps, covers, crosses, distinct-from, eq-eqb, eqb, false, false_from_ne_true, false≢true, fun_ext, further-none, has, has_bit, has_place, inl, inr, list_any, lt-ltb, ltb, ltb-true, ne_eqb, not, not-true, or_cases, or_left, or_right, refl, sym, true, true≢false, without_taking, ℕ, ◌%◌, ◌&&◌, ◌*◌, ◌/◌, ◌<◌, ◌||◌, ◌∙◌, ◌∷◌, ◌≡◌, ◌≢◌, ◌≤◌, ◌⊎◌}
-use Rattle.fields_core.proofs.VisitLemmas.{IsFull, IsOneAtMost, visits-met, visits-two, zeros_of}
+use Rattle.fields_core.proofs.Common.{AllByRecursion, AreAround, ArePlanesAlive, AreRunsOf, AreVisited, Bool, CountHouse, Extent, IsClash, IsFurther, IsHouse, IsLeast, IsRunOf, Layers, Line, List, [], and-false, and-true, and_from, and_parts, any_below, any_below-here, any_below-none, any_below-some, ap, arith, at_line, cases_Bool, cases_eq, cases_lt, common_steps, covers, crosses, distinct-from, eq-eqb, eqb, false, false_from_ne_true, false≢true, fun_ext, has, has_bit, has_place, inl, inr, list_any, lt-ltb, ltb, ltb-true, ne_eqb, not, not-true, or_cases, or_left, or_right, refl, sym, true, true≢false, without_taking, ℕ, ◌%◌, ◌&&◌, ◌*◌, ◌/◌, ◌<◌, ◌||◌, ◌∙◌, ◌∷◌, ◌≡◌, ◌≢◌, ◌≤◌, ◌⊎◌}
+use Rattle.fields_core.proofs.VisitLemmas.{IsFull, IsOneAtMost, visited-dies, visited-left, visits-met, visits-two, zeros_of}
 unfoldable use Rattle.fields_core.proofs.VisitLemmas.{is_met, without_met}
 use Rattle.fields_core.proofs.PlaceLists.{any-here, any-some, count-one}
 use Rattle.fields_core.proofs.CellLemmas.{same-truth}
@@ -186,19 +186,11 @@ module _ (size : Extent) (line : Line) (n room : ℕ) (cell : ℕ → ℕ) (join
   runs-clash clash =
       let one = must-at clash.one clash.one_marked in let other = must-at clash.other clash.other_marked in
       let both = and_parts _ _ (sym (run_is clash.one clash.other one.0) ∙ clash.same) in let after = clash.after in
-      record {
-        left = λ e. absurd (false≢true e);
-        dies = λ _. (
-          cell clash.one,
-          rw same_size (inside clash.one clash.other one.0 other.0 both.1),
-          λ v low. visits-two cells houses (has from) (cell clash.one) (cell clash.other) v
-              (each-more (IsRunOf cells n cell joined) (λ house. IsHouse cells house × (house.most ≡ 1)) houses (λ house is. (is.is, is.most_is)) are.each)
-              (λ e. let same = are.own clash.one clash.other one.0 other.0 e in absurd (omega arith))
-              (are.some clash.one clash.other one.0 other.0 both.1) one.1 other.1 low,
-        );
-        alive = alive;
-        further = further-none from;
-      }
+      visited-dies (cell clash.one) (rw same_size (inside clash.one clash.other one.0 other.0 both.1))
+      (λ v low. visits-two cells houses (has from) (cell clash.one) (cell clash.other) v
+      (each-more (IsRunOf cells n cell joined) (λ house. IsHouse cells house × (house.most ≡ 1)) houses (λ house is. (is.is, is.most_is)) are.each)
+      (λ e. let same = are.own clash.one clash.other one.0 other.0 e in absurd (omega arith))
+      (are.some clash.one clash.other one.0 other.0 both.1) one.1 other.1 low) alive
     where
       inside : (j k : ℕ) → j < n → k < n → joined j k ≡ true → cell j < cells
       inside j k lj lk on =
@@ -211,12 +203,8 @@ module _ (size : Extent) (line : Line) (n room : ℕ) (cell : ℕ → ℕ) (join
       → has to ≡ without_taking from.size.w (has from) (record { line = line; value = 1; bits = taken }) → IsFurther from to
       → AreVisited houses from to true
   unfolding without_taking covers without_met is_met
-  runs-met {around} taken {to} is taken_is left further = record {
-    left = λ _. met ∙ sym (visits-met houses (has from) full each);
-    dies = λ e. absurd (true≢false e);
-    alive = λ c lt. living c (alive c (rw (further.same_size) at lt));
-    further = further;
-  }
+  runs-met {around} taken {to} is taken_is left further =
+      visited-left (met ∙ sym (visits-met houses (has from) full each)) (λ c lt. living c (alive c (rw (further.same_size) at lt))) further
     where
       full : IsFull cells (has from)
       full = record { low = value-in from; some = λ c lt. alive c (rw same_size lt) }

@@ -1,8 +1,8 @@
 -- The houses of the runs of Light Up, line by line.
-use Rattle.fields_core.proofs.Common.{AllByRecursion, AreIdle, ArePlanesAlive, AreRunsOf, AreVisited, Bool, Candidates, Column, IsColumnRun, IsInside, IsLight, IsRowRun, IsRunOf, Layers, Light, List, Row, and_from, and_parts, any_below, any_below-here, any_below-some, ap, arith, begins_column_run, begins_row_run, cases_Bool, column_house, column_run, column_runs_of_column, crosses, div-lt_iff_lt-mul, div-mul-add, eq-eqb, eqb-true, false, has, has_bit, has_place, houses_below, inl, inr, joined_in_column, joined_in_row, light_cells, list_any, lt-ltb, ltb, mod-lt, or_left, place-column, place-in, refl, row_house, row_run, row_runs_of_row, slice_index, suc, sym, true, white, zero, ℕ, ◌%◌, ◌&&◌, ◌*◌, ◌+◌, ◌/◌, ◌<◌, ◌∙◌, ◌≡◌}
+use Rattle.fields_core.proofs.Common.{AllByRecursion, AreIdle, ArePlanesAlive, AreRunsOf, AreVisited, Bool, Candidates, Column, CountHouse, IsColumnRun, IsInside, IsLight, IsRowRun, IsRunOf, Layers, Light, Line, List, Row, ℕ, and_from, and_parts, any_below, any_below-here, any_below-some, ap, arith, begins_column_run, begins_row_run, cases_Bool, column_house, column_run, column_runs_of_column, crosses, div-lt_iff_lt-mul, div-mul-add, eq-eqb, eqb-true, false, has, has_bit, has_place, houses_below, inl, inr, joined_in_column, joined_in_row, light_cells, list_any, lt-ltb, ltb, mod-lt, or_left, place-column, place-in, refl, row_house, row_run, row_runs_of_row, slice_index, subst, suc, sym, true, white, zero, ◌%◌, ◌&&◌, ◌*◌, ◌+◌, ◌/◌, ◌<◌, ◌∙◌, ◌≡◌}
 use Rattle.fields_core.proofs.LightRuleLemmas.{IsBoard, column-kind, column-run-joined, in-column-run, in-row-run, light-board, row-kind, row-run-joined}
 use Rattle.fields_core.proofs.LightHouseLaws.{clear-at, column-both, column-parts, column-run-on, column-self, column-white-end, mul-inj, row-both, row-parts, row-run-on, row-self, white-in}
-use Rattle.fields_core.proofs.HouseLemmas.{all-houses, any-houses}
+use Rattle.fields_core.proofs.HouseLemmas.{all-houses, all-if, any-houses}
 use Rattle.fields_core.proofs.HouseOrder.{AreSame, IsSingle, singles-kept, visited-any-order}
 use Rattle.fields_core.proofs.VisitLemmas.{IsFull, below-rows}
 use Rattle.fields_core.proofs.CellLemmas.{same-truth}
@@ -59,22 +59,6 @@ module _ (p : Light) (y : ℕ) (lawful : IsLight p) where
       let at_d = in-line d (sym (row-parts p b d joined_d).0 ∙ e) in
       (c % w, d % w, mod-lt c board.some, mod-lt d board.some, at_c, at_d, rw (at_c, at_d) (row-both p b c d joined_c joined_d))
 
-  row-each : (x : ℕ) → x < w → AllByRecursion (IsRunOf (light_cells p) w (λ k. y * w + k) (λ j k. joined_in_row p (y * w + j) (y * w + k))) (row_house p (y * w + x))
-  row-each x lt = by (begins_row_run p (y * w + x)) refl
-    where
-      by : (b : Bool) → begins_row_run p (y * w + x) ≡ b
-          → AllByRecursion (IsRunOf (light_cells p) w (λ k. y * w + k) (λ j k. joined_in_row p (y * w + j) (y * w + k))) (row_house p (y * w + x))
-      by false off = rw off tt
-      by true on = rw on (
-        record {
-          is = (row-kind p (y * w + x) board).is_house;
-          least_is = refl;
-          most_is = refl;
-          joins = row-joins (y * w + x) (div-mul-add y w x lt);
-        },
-        tt,
-      )
-
   row-together : (c d : ℕ) → c / w ≡ y → joined_in_row p c d ≡ true
       → list_any (λ house. has_place house.places c && has_place house.places d) (row_runs_of_row p y) ≡ true
   row-together c d e on =
@@ -93,7 +77,12 @@ module _ (p : Light) (y : ℕ) (lawful : IsLight p) where
     at_cell = λ bits c on. let v = and_parts _ _ on in (c % w, in-line c (eqb-true _ _ v.0), v.1);
     from_cell = λ bits k lt on. rw (div-mul-add y w k lt, place-column w y k lt) (and_from _ _ (eq-eqb y y refl) on);
     values = λ q v k size low lt. rw (size, lt-ltb _ _ low, div-mul-add y w k lt, place-column w y k lt) refl;
-    each = all-houses (IsRunOf (light_cells p) w (λ k. y * w + k) (λ j k. joined_in_row p (y * w + j) (y * w + k))) (λ x. row_house p (y * w + x)) w row-each;
+    each = all-houses _ (λ x. row_house p (y * w + x)) w (λ x lt. all-if _ (λ _. record {
+      is = (row-kind p (y * w + x) board).is_house;
+      least_is = refl;
+      most_is = refl;
+      joins = row-joins (y * w + x) (div-mul-add y w x lt);
+    }));
     some = λ j k lj lk on. row-together (y * w + j) (y * w + k) (div-mul-add y w j lj) on;
   }
 
@@ -126,22 +115,6 @@ module _ (p : Light) (x : ℕ) (lawful : IsLight p) (low : x < p.size.w) where
         rw (at_c, at_d) (column-both p b c d joined_c joined_d),
       )
 
-  column-each : (y : ℕ) → AllByRecursion (IsRunOf (light_cells p) p.size.h (λ k. k * v + x) (λ j k. joined_in_column p (j * v + x) (k * v + x))) (column_house p (y * v + x))
-  column-each y = by (begins_column_run p (y * v + x)) refl
-    where
-      by : (b : Bool) → begins_column_run p (y * v + x) ≡ b
-          → AllByRecursion (IsRunOf (light_cells p) p.size.h (λ k. k * v + x) (λ j k. joined_in_column p (j * v + x) (k * v + x))) (column_house p (y * v + x))
-      by false off = rw off tt
-      by true on = rw on (
-        record {
-          is = (column-kind p (y * v + x) field).is_house;
-          least_is = refl;
-          most_is = refl;
-          joins = column-joins (y * v + x) (place-column v y x low);
-        },
-        tt,
-      )
-
   column-together : (c : ℕ) {d : ℕ} → c % v ≡ x → d < light_cells p → joined_in_column p c d ≡ true
       → list_any (λ house. has_place house.places c && has_place house.places d) (column_runs_of_column p x) ≡ true
   column-together c {d} e inside on =
@@ -162,7 +135,12 @@ module _ (p : Light) (x : ℕ) (lawful : IsLight p) (low : x < p.size.w) where
     at_cell = λ bits c on. let u = and_parts _ _ on in (c / v, in-column c (eqb-true _ _ u.0), u.1);
     from_cell = λ bits k lt on. rw (div-mul-add k v x low, place-column v k x low) (and_from _ _ (eq-eqb x x refl) on);
     values = λ q u k size small lt. rw (size, lt-ltb _ _ small, div-mul-add k v x low, place-column v k x low) refl;
-    each = all-houses (IsRunOf (light_cells p) p.size.h (λ k. k * v + x) (λ j k. joined_in_column p (j * v + x) (k * v + x))) (λ y. column_house p (y * v + x)) p.size.h (λ y _. column-each y);
+    each = all-houses _ (λ y. column_house p (y * v + x)) p.size.h (λ y _. all-if _ (λ _. record {
+      is = (column-kind p (y * v + x) field).is_house;
+      least_is = refl;
+      most_is = refl;
+      joins = column-joins (y * v + x) (place-column v y x low);
+    }));
     some = λ j k lj lk on. column-together (j * v + x) (place-column v j x low)
         (white-in p (k * v + x) field.long (column-white-end p (j * v + x) (k * v + x) field.some on)) on;
   }
@@ -217,11 +195,7 @@ columns-same p pos test =
         ∙ any_below-here (λ y. list_any test (column_house p (y * p.size.w + c.0 % p.size.w))) p.size.h (c.0 / p.size.w) low (rw whole c.2))
 
 column-single : {p : Light} (c : ℕ) → IsBoard p → AllByRecursion (IsSingle (light_cells p)) (column_house p c)
-column-single {p} c board = by (begins_column_run p c) refl
-  where
-    by : (b : Bool) → begins_column_run p c ≡ b → AllByRecursion (IsSingle (light_cells p)) (column_house p c)
-    by false off = rw off tt
-    by true on = rw on (record { is = (column-kind p c board).is_house; least_is = refl; most_is = refl }, tt)
+column-single {p} c board = all-if _ (λ _. record { is = (column-kind p c board).is_house; least_is = refl; most_is = refl })
 
 -- visits of the runs of each column are visits of all runs of columns
 pub column-runs-visited : {p : Light} {from to : Layers} {fills : Bool} → IsLight p → from.size ≡ p.size → ArePlanesAlive from
@@ -235,35 +209,15 @@ column-runs-visited {p} {from} {to} {fills} lawful size alive visited =
     (rw size (all-houses (IsSingle (light_cells p)) (column_house p) (light_cells p) (λ c _. column-single c board)))
     (columns-same p board.some) visited
 
--- ---- where the runs of a line lie
-pub row-runs-lie : {p : Light} (y c : ℕ) → IsLight p → list_any (λ house. has_place house.places c) (row_runs_of_row p y) ≡ true → c / p.size.w ≡ y
-row-runs-lie {p} y c lawful on =
-    let w = some-of (IsRunOf (light_cells p) p.size.w (λ k. y * p.size.w + k) (λ j k. joined_in_row p (y * p.size.w + j) (y * p.size.w + k)))
-    (λ house. has_place house.places c) (row_runs_of_row p y) (row-runs-of p y lawful).each on in
-    let v = w.1.joins c c w.2 w.2 in ap (λ n. n / p.size.w) (sym v.4) ∙ div-mul-add y p.size.w v.0 v.2
+-- ---- the runs of a line
+module _ (p : Light) {line : Line} {n : ℕ} {cell : ℕ → ℕ} {joined : ℕ → ℕ → Bool} {houses : List CountHouse} (are : AreRunsOf p.size line n cell joined houses) where
+  pub line-single : AllByRecursion (IsSingle (light_cells p)) houses
+  line-single = each-more (IsRunOf (light_cells p) n cell joined) (IsSingle (light_cells p)) houses
+      (λ house of. record { is = of.is; least_is = of.least_is; most_is = of.most_is }) are.each
 
-pub column-runs-lie : {p : Light} {x : ℕ} (c : ℕ) → IsLight p → x < p.size.w → list_any (λ house. has_place house.places c) (column_runs_of_column p x) ≡ true
-    → c % p.size.w ≡ x
-column-runs-lie {p} {x} c lawful lt on =
-    let w = some-of (IsRunOf (light_cells p) p.size.h (λ k. k * p.size.w + x) (λ j k. joined_in_column p (j * p.size.w + x) (k * p.size.w + x)))
-    (λ house. has_place house.places c) (column_runs_of_column p x) (column-runs-of p x lawful lt).each on in
-    let v = w.1.joins c c w.2 w.2 in ap (λ n. n % p.size.w) (sym v.4) ∙ place-column p.size.w v.0 x lt
-
--- ---- what takes nothing still takes nothing, where no cell of the line has lost 0
-pub row-runs-single : {p : Light} (y : ℕ) → IsLight p → AllByRecursion (IsSingle (light_cells p)) (row_runs_of_row p y)
-row-runs-single {p} y lawful = each-more (IsRunOf (light_cells p) p.size.w (λ k. y * p.size.w + k) (λ j k. joined_in_row p (y * p.size.w + j) (y * p.size.w + k)))
-    (IsSingle (light_cells p)) (row_runs_of_row p y) (λ house of. record { is = of.is; least_is = of.least_is; most_is = of.most_is }) (row-runs-of p y lawful).each
-
-pub column-runs-single : {p : Light} (x : ℕ) → IsLight p → AllByRecursion (IsSingle (light_cells p)) (column_runs_of_column p x)
-column-runs-single {p} x lawful =
-    all-houses (IsSingle (light_cells p)) (λ y. column_house p (y * p.size.w + x)) p.size.h (λ y _. column-single (y * p.size.w + x) (light-board lawful))
-
-module _ (p : Light) (K L : Candidates) (lawful : IsLight p) (full : IsFull (light_cells p) K) (still : IsFull (light_cells p) L) (inside : IsInside L K) where
-  pub row-runs-kept : (y : ℕ) → ((c : ℕ) → c / p.size.w ≡ y → L c 0 ≡ K c 0) → AreIdle (row_runs_of_row p y) K → AreIdle (row_runs_of_row p y) L
-  row-runs-kept y zeros = singles-kept (light_cells p) (row_runs_of_row p y) K L (row-runs-single y lawful) full still inside
-      (λ c on. zeros c (row-runs-lie y c lawful on))
-
-  pub column-runs-kept : {x : ℕ} → x < p.size.w → ((c : ℕ) → c % p.size.w ≡ x → L c 0 ≡ K c 0)
-      → AreIdle (column_runs_of_column p x) K → AreIdle (column_runs_of_column p x) L
-  column-runs-kept {x} lt zeros = singles-kept (light_cells p) (column_runs_of_column p x) K L (column-runs-single x lawful) full still inside
-      (λ c on. zeros c (column-runs-lie c lawful lt on))
+  -- what takes nothing still takes nothing, where no cell of the line has lost 0
+  pub line-kept : {K L : Candidates} → IsFull (light_cells p) K → IsFull (light_cells p) L → IsInside L K
+      → ((k : ℕ) → k < n → L (cell k) 0 ≡ K (cell k) 0) → AreIdle houses K → AreIdle houses L
+  line-kept {K} {L} full still inside zeros = singles-kept (light_cells p) houses K L line-single full still inside (λ c on.
+      let w = some-of (IsRunOf (light_cells p) n cell joined) (λ house. has_place house.places c) houses are.each on in
+      let v = w.1.joins c c w.2 w.2 in subst (λ d. L d 0 ≡ K d 0) v.4 (zeros v.0 v.2))

@@ -190,19 +190,18 @@ clear-within test other {j} {k} low high same = same-truth _ _
     (λ on. clear-from other j k (λ i from up. sym (same i (omega arith)) ∙ clear-at test j k i on from up))
     (λ on. clear-from test j k (λ i from up. same i (omega arith) ∙ clear-at other j k i on from up))
 
+run-from : {n i : ℕ} (whites bits : ℕ) (test : ℕ → Bool) {joined : ℕ → Bool} → i < n → ((k : ℕ) → has_bit whites k ≡ (ltb k n && test k))
+    → ((k : ℕ) → k < n → joined k ≡ clear test i k) → IsRunAt (has_bit whites) n i bits → (x : ℕ) → has_bit bits x ≡ (ltb x n && joined x)
+run-from {n} whites bits test lt are joins is x = is x ∙ elim (cases_lt x n) [
+  | inr past ↦ rw (le-ltb _ _ past) refl
+  | inl inside ↦ ap (λ b. ltb x n && b) (clear-within (has_bit whites) test lt inside (λ k low. are k ∙ rw (lt-ltb _ _ low) refl) ∙ sym (joins x inside))
+]
+
 row-run-from : (p : Light) (y whites : ℕ) {i : ℕ} (bits : ℕ) → i < p.size.w → IsRowOf p.size.w (white p) y whites
     → IsRunAt (has_bit whites) p.size.w i bits → IsRowRun p (y * p.size.w + i) bits
-row-run-from p y whites {i} _ lt are is x = is x ∙ elim (cases_lt x p.size.w) [
-  | inr past ↦ rw (le-ltb _ _ past) refl
-  | inl inside ↦ rw (div-mul-add y p.size.w i lt) (ap (λ b. ltb x p.size.w && b) (same inside ∙ sym (joined inside)))
-]
-  where
-    same : x < p.size.w → clear (has_bit whites) i x ≡ clear (λ k. white p (y * p.size.w + k)) i x
-    same inside = clear-within (has_bit whites) (λ k. white p (y * p.size.w + k)) lt inside
-        (λ k low. are k ∙ rw (lt-ltb _ _ low) refl)
-
-    joined : x < p.size.w → joined_in_row p (y * p.size.w + i) (y * p.size.w + x) ≡ clear (λ k. white p (y * p.size.w + k)) i x
-    joined inside = rw (div-mul-add y p.size.w i lt, place-column p.size.w y i lt) at (row-cell-joined p (y * p.size.w + i) inside)
+row-run-from p y whites {i} bits lt are = run-from whites bits (λ k. white p (y * p.size.w + k)) lt are (λ k less.
+    ap (λ d. joined_in_row p (y * p.size.w + i) (d * p.size.w + k)) (div-mul-add y p.size.w i lt)
+    ∙ (rw (div-mul-add y p.size.w i lt, place-column p.size.w y i lt) at (row-cell-joined p (y * p.size.w + i) less)))
 
 pub rows-written : (p : Light) (y whites : ℕ) (from to : List ℕ) → IsRowOf p.size.w (white p) y whites
     → ((c : ℕ) → c < y * p.size.w → IsRowRun p c (slice_index from c))
@@ -219,17 +218,9 @@ rows-written p y whites from to are before is c lt = elim (cases_lt c (y * p.siz
 -- ---- and of the columns
 column-run-from : (p : Light) {x : ℕ} (whites : ℕ) {i : ℕ} (bits : ℕ) → x < p.size.w → i < p.size.h → IsColumnOf p.size (white p) x whites
     → IsRunAt (has_bit whites) p.size.h i bits → IsColumnRun p (i * p.size.w + x) bits
-column-run-from p {x} whites {i} _ lt low are is y = is y ∙ elim (cases_lt y p.size.h) [
-  | inr past ↦ rw (le-ltb _ _ past) refl
-  | inl inside ↦ rw (place-column p.size.w i x lt) (ap (λ b. ltb y p.size.h && b) (same inside ∙ sym joined))
-]
-  where
-    same : y < p.size.h → clear (has_bit whites) i y ≡ clear (λ k. white p (k * p.size.w + x)) i y
-    same inside = clear-within (has_bit whites) (λ k. white p (k * p.size.w + x)) low inside
-        (λ k less. are k ∙ rw (lt-ltb _ _ less) refl)
-
-    joined : joined_in_column p (i * p.size.w + x) (y * p.size.w + x) ≡ clear (λ k. white p (k * p.size.w + x)) i y
-    joined = rw (div-mul-add i p.size.w x lt, place-column p.size.w i x lt) at (column-cell-joined p (i * p.size.w + x) y (omega arith))
+column-run-from p {x} whites {i} bits lt low are = run-from whites bits (λ k. white p (k * p.size.w + x)) low are (λ k _.
+    ap (λ d. joined_in_column p (i * p.size.w + x) (k * p.size.w + d)) (place-column p.size.w i x lt)
+    ∙ (rw (div-mul-add i p.size.w x lt, place-column p.size.w i x lt) at (column-cell-joined p (i * p.size.w + x) k (omega arith))))
 
 pub columns-written : (p : Light) {x : ℕ} (whites : ℕ) (from to : List ℕ) → x < p.size.w → IsColumnOf p.size (white p) x whites
     → ((c : ℕ) → c < light_cells p → c % p.size.w < x → IsColumnRun p c (slice_index from c))

@@ -59,6 +59,14 @@ two-places passes (suc n) many = elim (cases_Bool (passes n)) [
 ]
 
 -- Runs of Light Up with two cells that can have a bulb, or with one that must, as words.
+-- ---- cells that can have a bulb
+must-safe : {cells : ℕ → Bool} {K : Candidates} (c : ℕ) → cells c ≡ true → K c 1 ≡ true → K c 0 ≡ false → AreSafe cells K
+must-safe c there on off = record { one = c; other = c; one_in = there; other_in = there; one_on = on; other_on = on; apart = inr off }
+
+two-safe : {cells : ℕ → Bool} {K : Candidates} (c d : ℕ) → c < d → cells c ≡ true → cells d ≡ true → K c 1 ≡ true → K d 1 ≡ true → AreSafe cells K
+two-safe c d less in_c in_d on_c on_d =
+    record { one = c; other = d; one_in = in_c; other_in = in_d; one_on = on_c; other_on = on_d; apart = inl (λ e. absurd (omega (arith, e, less))) }
+
 -- ---- the runs of a cell as words
 module _ (p : Light) (y x : ℕ) (x_in : x < p.size.w) where
   abbrev cell : ℕ
@@ -79,15 +87,7 @@ module _ (p : Light) (y x : ℕ) (x_in : x < p.size.w) where
         let w = two-places (has_bit bits) room many in let one = and_parts _ _ (sym (ones w.0) ∙ w.4) in
         let other = and_parts _ _ (sym (ones w.1) ∙ w.5) in let a = row-there w.0 one.1 in
         let b = row-there w.1 other.1 in
-        record {
-          one = y * p.size.w + w.0;
-          other = y * p.size.w + w.1;
-          one_in = a.1;
-          other_in = b.1;
-          one_on = can_have planes size y a.0 one.0;
-          other_on = can_have planes size y b.0 other.0;
-          apart = inl (λ e. absurd (omega (arith, e, w.2)));
-        }
+        two-safe _ _ (omega (arith, w.2)) a.1 b.1 (can_have planes size y a.0 one.0) (can_have planes size y b.0 other.0)
 
     pub row-must : (planes : Layers) (bits room : ℕ) → planes.size ≡ p.size
         → ((k : ℕ) → has_bit bits k ≡ ((bit_of planes.rows y 1 k && not (bit_of planes.rows y 0 k)) && has_bit run k)) → any_below (has_bit bits) room ≡ true
@@ -95,16 +95,8 @@ module _ (p : Light) (y x : ℕ) (x_in : x < p.size.w) where
     row-must planes bits room size must some =
         let w = any_below-some (has_bit bits) room some in
         let there = and_parts _ _ (sym (must w.0) ∙ w.2) in let is = and_parts _ _ there.0 in
-        let a = row-there w.0 there.1 in let on = can_have planes size y a.0 is.0 in
-        record {
-          one = y * p.size.w + w.0;
-          other = y * p.size.w + w.0;
-          one_in = a.1;
-          other_in = a.1;
-          one_on = on;
-          other_on = on;
-          apart = inr (has-at planes y w.0 0 (rw size refl) a.0 (omega arith) ∙ not-true _ is.1);
-        }
+        let a = row-there w.0 there.1 in
+        must-safe _ a.1 (can_have planes size y a.0 is.0) (has-at planes y w.0 0 (rw size refl) a.0 (omega arith) ∙ not-true _ is.1)
 
   -- one of its column run that must
   pub column-must : (run : ℕ) → IsColumnRun p cell run → (planes : Layers) (bits room : ℕ) → planes.size ≡ p.size → IsFull (light_cells p) (has planes)
@@ -116,8 +108,8 @@ module _ (p : Light) (y x : ℕ) (x_in : x < p.size.w) where
       let off = has-at planes w.0 x 0 (rw size refl) x_in (omega arith) ∙ not-true _ there.1 in
       let in_run = rw (mod-mul-add y p.size.w x x_in) at joined.1 in
       elim (full.some (w.0 * p.size.w + x) (place-in p.size.w p.size.h w.0 x (ltb-true w.0 p.size.h joined.0) x_in)) [
-        | inl zero ↦ absurd (true≢false (sym zero ∙ off))
-        | inr on ↦ record { one = w.0 * p.size.w + x; other = w.0 * p.size.w + x; one_in = in_run; other_in = in_run; one_on = on; other_on = on; apart = inr off }
+        | inl both ↦ absurd (true≢false (sym both ∙ off))
+        | inr on ↦ must-safe _ in_run on off
       ]
 
 -- the same of another cell that is joined to them
@@ -179,22 +171,12 @@ module _ (p : Light) (K : Candidates) (j whites : ℕ) (ones zeros : ℕ → Boo
       let both = and_parts _ _ (sym (is x) ∙ on) in let own = here x both.1 in
       let self = column-self p (j * p.size.w + x) own.1 in
       elim (or_cases _ _ both.0) [
-        | inr sure ↦
-            let w = and_parts _ _ sure in let is_on = can x own.0 w.0 in
-            record { one = j * p.size.w + x; other = j * p.size.w + x; one_in = self; other_in = self; one_on = is_on; other_on = is_on; apart = inr (must x own.0 (not-true _ w.1)) }
+        | inr sure ↦ let w = and_parts _ _ sure in must-safe _ self (can x own.0 w.0) (must x own.0 (not-true _ w.1))
         | inl more ↦ elim (or_cases _ _ more) [
           | inl there ↦ safe-moved (λ d joined. up x d both.1 joined) (two_below x there)
           | inr pair ↦
               let w = and_parts _ _ pair in let v = one_below x w.0 in
-              record {
-                one = j * p.size.w + x;
-                other = v.0;
-                one_in = self;
-                other_in = up x v.0 both.1 v.2;
-                one_on = can x own.0 w.1;
-                other_on = v.3;
-                apart = inl (λ e. absurd (omega (arith, v.1, at x, e, some)));
-              }
+              two-safe _ v.0 (omega (arith, v.1, at x, some)) self (up x v.0 both.1 v.2) (can x own.0 w.1) v.3
         ]
       ]
 

@@ -24,58 +24,42 @@ module _ (white bulb : ℕ → Bool) {len at start end : ℕ} (run : IsAround wh
 whole : (c w : ℕ) → c ≡ c / w * w + c % w
 whole c w = omega arith
 
+-- a line of n cells, the cell's number in it, and what is joined to the cell
+module _ (p : Light) (g : List ℕ) {c at n : ℕ} (first stride : ℕ) (joined : ℕ → ℕ → Bool)
+    (inside : (k : ℕ) → k < n → first + k * stride < light_cells p) (own : (k : ℕ) → k ≢ at → first + k * stride ≢ c)
+    (joins : (k : ℕ) → k < n → clear (λ i. white p (first + i * stride)) at k ≡ joined c (first + k * stride))
+    (lies : (d : ℕ) → d < light_cells p → joined c d ≡ true → (k : ℕ) × (k < n) × (first + k * stride ≡ d)) (here : first + at * stride ≡ c) where
+  line-sees : (b : Bool) → ShinesAlong (λ i. white p (first + i * stride)) (λ i. bulb g (first + i * stride)) at n b → SeesAlong joined (light_cells p) g c b
+  line-sees true s = (first + s.0 * stride, inside s.0 s.1, own s.0 s.2, sym (joins s.0 s.1) ∙ s.3, s.4)
+  line-sees false s = λ d lt ne on.
+      let w = lies d lt on in
+      ap (bulb g) (sym w.2) ∙ s w.0 w.1 (λ e. ne (sym w.2 ∙ ap (λ k. first + k * stride) e ∙ here)) (joins w.0 w.1 ∙ ap (joined c) w.2 ∙ on)
+
 pub row-sees : (p : Light) (g : List ℕ) {c : ℕ} (b : Bool) → 0 < p.size.w → c < light_cells p
     → ShinesAlong (λ i. white p (c / p.size.w * p.size.w + i * 1)) (λ i. bulb g (c / p.size.w * p.size.w + i * 1)) (c % p.size.w) p.size.w b
     → SeesAlong (joined_in_row p) (light_cells p) g c b
-row-sees p g {c} b some in_grid s = by b s
+row-sees p g {c} b some in_grid = line-sees p g (c / p.size.w * p.size.w) 1 (joined_in_row p)
+    (λ k lt. rw (same k) (omega (arith, mul-add-lt (c / p.size.w) p.size.w k p.size.h (row-in {w = p.size.w} p.size.h c some in_grid) lt)))
+    (λ k ne e. ne (omega (arith, whole c p.size.w, e)))
+    (λ k lt. clear-same _ _ _ k (λ i. ap (white p) (same i)) ∙ sym (row-cell-joined p c lt) ∙ ap (joined_in_row p c) (sym (same k)))
+    (λ d _ on. (d % p.size.w, mod-lt d some, same (d % p.size.w) ∙ rw (row-parts p c d on).0 (sym (whole d p.size.w))))
+    (same (c % p.size.w) ∙ sym (whole c p.size.w)) b
   where
-    row : ℕ
-    row = c / p.size.w * p.size.w
-
-    same : (i : ℕ) → row + i * 1 ≡ row + i
+    same : (i : ℕ) → c / p.size.w * p.size.w + i * 1 ≡ c / p.size.w * p.size.w + i
     same i = omega arith
-
-    test : (i : ℕ) → clear (λ k. white p (row + k * 1)) (c % p.size.w) i ≡ clear (λ k. white p (row + k)) (c % p.size.w) i
-    test i = grind (arith, common_steps, clear-same, white, clear)
-
-    by : (b : Bool) → ShinesAlong (λ i. white p (row + i * 1)) (λ i. bulb g (row + i * 1)) (c % p.size.w) p.size.w b
-        → SeesAlong (joined_in_row p) (light_cells p) g c b
-    by true s = (
-      row + s.0 * 1,
-      rw (same s.0) (omega (arith, mul-add-lt (c / p.size.w) p.size.w s.0 p.size.h (row-in {w = p.size.w} p.size.h c some in_grid) s.1)),
-      (λ f. s.2 (omega (arith, whole c p.size.w))),
-      ap (joined_in_row p c) (same s.0) ∙ row-cell-joined p c s.1 ∙ sym (test s.0) ∙ s.3,
-      s.4,
-    )
-    by false s = λ d lt ne on.
-        let v = row-parts p c d on in let here = same (d % p.size.w) ∙ rw v.0 (sym (whole d p.size.w)) in
-        ap (bulb g) (sym here) ∙ s (d % p.size.w) (mod-lt d some) (λ f. ne (omega (arith, whole c p.size.w, here))) (test (d % p.size.w) ∙ v.1)
 
 pub column-sees : (p : Light) (g : List ℕ) (c : ℕ) (b : Bool) → 0 < p.size.w
     → ShinesAlong (λ i. white p (c % p.size.w + i * p.size.w)) (λ i. bulb g (c % p.size.w + i * p.size.w)) (c / p.size.w) p.size.h b
     → SeesAlong (joined_in_column p) (light_cells p) g c b
-column-sees p g c b some s = by b s
+column-sees p g c b some = line-sees p g (c % p.size.w) p.size.w (joined_in_column p)
+    (λ k lt. rw (same k) (omega (arith, mul-add-lt k p.size.w (c % p.size.w) p.size.h lt (mod-lt c some))))
+    (λ k ne e. ne (mul-inj some (omega (arith, whole c p.size.w, e))))
+    (λ k _. clear-same _ _ _ k (λ i. ap (white p) (same i)) ∙ sym (column-cell-joined p c k some) ∙ ap (joined_in_column p c) (sym (same k)))
+    (λ d lt on. (d / p.size.w, row-in p.size.h d some lt, same (d / p.size.w) ∙ rw (column-parts p c d on).0 (sym (whole d p.size.w))))
+    (same (c / p.size.w) ∙ sym (whole c p.size.w)) b
   where
     same : (i : ℕ) → c % p.size.w + i * p.size.w ≡ i * p.size.w + c % p.size.w
     same i = omega arith
-
-    test : (i : ℕ) → clear (λ k. white p (c % p.size.w + k * p.size.w)) (c / p.size.w) i ≡ clear (λ k. white p (k * p.size.w + c % p.size.w)) (c / p.size.w) i
-    test i = grind (arith, common_steps, clear-same, white, clear)
-
-    by : (b : Bool) → ShinesAlong (λ i. white p (c % p.size.w + i * p.size.w)) (λ i. bulb g (c % p.size.w + i * p.size.w)) (c / p.size.w) p.size.h b
-        → SeesAlong (joined_in_column p) (light_cells p) g c b
-    by true s = (
-      c % p.size.w + s.0 * p.size.w,
-      rw (same s.0) (omega (arith, mul-add-lt s.0 p.size.w (c % p.size.w) p.size.h s.1 (mod-lt c some))),
-      (λ t. s.2 (mul-inj some (omega (arith, whole c p.size.w)))),
-      ap (joined_in_column p c) (same s.0) ∙ column-cell-joined p c s.0 some ∙ sym (test s.0) ∙ s.3,
-      s.4,
-    )
-    by false s = λ d lt ne on.
-        let v = column-parts p c d on in let here = same (d / p.size.w) ∙ rw v.0 (sym (whole d p.size.w)) in
-        ap (bulb g) (sym here) ∙ s (d / p.size.w) (row-in p.size.h d some lt)
-        (λ t. ne (sym here ∙ ap (λ y. c % p.size.w + y * p.size.w) t ∙ (omega (arith, whole c p.size.w))))
-        (test (d / p.size.w) ∙ v.1)
 
 -- ---- both lines
 swapped : (c d : ℕ) → d ≢ c → not (eqb c d) ≡ true

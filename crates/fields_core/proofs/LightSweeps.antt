@@ -1,5 +1,5 @@
 -- Light Up: what waits, and sweeps of its houses on planes.
-use Rattle.fields_core.proofs.Common.{AllByRecursion, AreIdle, AreIdleBut, AreLightsReady, AreLinesOf, AreLinesRested, AreLinesWoken, ArePlanesAlive, ArePlanesOf, AreSafe, AreVisited, Black, Bool, Candidates, CountHouse, HasBoard, IsAway, IsClosed, IsClosedAround, IsFurther, IsInside, IsLight, IsLostIn, IsReach, IsSweep, Layers, Light, LightCell, List, Numbered, RunKind, Touched, White, after_houses, any_below, any_below-none, ap, append_assoc, arith, back_at, cases_Bool, cases_eq, column_house, column_run, common_steps, eqb, eqb-true, exactly, false, false_from_ne_true, filter, get_or, has, has_bit, has_place, houses_below, inl, inr, joined_in_column, joined_in_row, length, light_cells, light_counts, light_houses, light_rules, lit_house, lits_of_row, mod-lt, ne_eqb, not, number_house, numbers_of_row, one_at_least, or_left, or_parts, or_right, place-back, place-filter, place-front, place-in, place-kept, refl, row_house, row_run, row_runs_of_row, run_houses, run_lines, seen_from, solves_lights, steps, suc, sym, true, true≢false, waiting_runs, white, white_houses, zero, ℕ, ◌%◌, ◌&&◌, ◌*◌, ◌++◌, ◌+◌, ◌/◌, ◌<◌, ◌||◌, ◌∙◌, ◌≡◌, ◌≤◌, ◌⊎◌}
+use Rattle.fields_core.proofs.Common.{AllByRecursion, AreIdle, AreIdleBut, AreLightsReady, AreLinesOf, AreLinesRested, AreLinesWoken, ArePlanesAlive, ArePlanesOf, AreSafe, AreVisited, Black, Bool, Candidates, CountHouse, HasBoard, IsAway, IsClosed, IsClosedAround, IsFurther, IsInside, IsLight, IsLostIn, IsReach, IsSweep, Layers, Light, LightCell, List, Numbered, RunKind, Touched, White, ℕ, after_houses, any_below, any_below-none, ap, append_assoc, arith, back_at, cases_Bool, cases_eq, column_house, column_run, common_steps, div-mul-add, eqb, eqb-true, exactly, false, false_from_ne_true, filter, get_or, has, has_bit, has_place, houses_below, inl, inr, joined_in_column, joined_in_row, length, light_cells, light_counts, light_houses, light_rules, lit_house, lits_of_row, mod-lt, ne_eqb, not, number_house, numbers_of_row, one_at_least, or_left, or_parts, or_right, place-back, place-column, place-filter, place-front, place-in, place-kept, refl, row_house, row_run, row_runs_of_row, run_houses, run_lines, seen_from, solves_lights, steps, suc, sym, true, true≢false, waiting_runs, white, white_houses, zero, ◌%◌, ◌&&◌, ◌*◌, ◌++◌, ◌+◌, ◌/◌, ◌<◌, ◌||◌, ◌∙◌, ◌≡◌, ◌≤◌, ◌⊎◌}
 use Rattle.fields_core.specs.declared.planes.light_up.waits.LineWaits.{LineWaits}
 use Rattle.fields_core.specs.declared.planes.light_up.waits.RunKind.TheVariants.{Columns, Rows}
 unfoldable use Rattle.fields_core.proofs.IdleLemmas.{any_has}
@@ -10,13 +10,13 @@ use Rattle.fields_core.proofs.LightRuleLemmas.{in-column-run, in-row-run, light-
 use Rattle.fields_core.proofs.LightHouseLaws.{column-white-end, row-self, white-in}
 use Rattle.fields_core.proofs.LightLitVisits.{lit-is}
 use Rattle.fields_core.proofs.LightReach.{numbers-are}
-use Rattle.fields_core.proofs.LightRunOrder.{column-runs-kept, column-runs-single, row-runs-are, row-runs-kept, row-runs-single}
+use Rattle.fields_core.proofs.LightRunOrder.{column-runs-of, line-kept, line-single, row-runs-are, row-runs-of}
 use Rattle.fields_core.proofs.BesideLemmas.{IsNextTo, row-in, step-across, step-lies, steps-some}
 use Rattle.fields_core.proofs.PlaneSweeps.{around-inside, around-lost, back-whole, cells-alive, full-before, spread-off, value-kept, visits-swept}
 use Rattle.fields_core.proofs.PartLemmas.{value-in}
 use Rattle.fields_core.specs.declared.planes.light_up.light_notes.LightNotes.{LightNotes}
 use Rattle.fields_core.proofs.HouseOrder.{IsSingle, alls-quiet, quiet-done, quiet-one, quiet-stays, singles-quiet}
-use Rattle.fields_core.proofs.HouseLemmas.{all-houses}
+use Rattle.fields_core.proofs.HouseLemmas.{all-houses, all-if}
 
 -- What waits of Light Up: where numbers and runs lie, what stays idle, white cells too, and what is idle where a closing begins.
 module _ (p : Light) (lawful : IsLight p) (c : ℕ) (is_white : white p c ≡ true) where
@@ -41,21 +41,20 @@ module _ (p : Light) (lawful : IsLight p) (c : ℕ) (is_white : white p c ≡ tr
   ]
 
 -- ---- a run with two cells that can have a bulb, or one that must, leaves the houses of its cells idle
-pub row-safe : {p : Light} (c : ℕ) {K : Candidates} → IsLight p → IsFull (light_cells p) K → AreSafe (joined_in_row p c) K → AreIdle (lit_house p c) K
+run-safe : {p : Light} (c : ℕ) {K : Candidates} {joined : ℕ → Bool} → IsLight p → IsFull (light_cells p) K
+    → (white p c ≡ true → (d : ℕ) → joined d ≡ true → has_place (seen_from p c) d ≡ true) → AreSafe joined K → AreIdle (lit_house p c) K
 unfolding after_houses
-row-safe {p} c {K} lawful full safe = elim (cases_Bool (white p c)) [
-  | inl on ↦ rw on (safe-stay K (lit-is lawful (inside p lawful c on) on) full safe.one safe.other (seen-in-row p lawful c on safe.one safe.one_in)
-      (seen-in-row p lawful c on safe.other safe.other_in) safe.one_on safe.other_on safe.apart)
+run-safe {p} c {K} lawful full seen safe = elim (cases_Bool (white p c)) [
+  | inl on ↦ rw on (safe-stay K (lit-is lawful (inside p lawful c on) on) full safe.one safe.other (seen on safe.one safe.one_in)
+      (seen on safe.other safe.other_in) safe.one_on safe.other_on safe.apart)
   | inr off ↦ rw off refl
 ]
 
+pub row-safe : {p : Light} (c : ℕ) {K : Candidates} → IsLight p → IsFull (light_cells p) K → AreSafe (joined_in_row p c) K → AreIdle (lit_house p c) K
+row-safe {p} c lawful full = run-safe c lawful full (seen-in-row p lawful c)
+
 pub column-safe : {p : Light} (c : ℕ) {K : Candidates} → IsLight p → IsFull (light_cells p) K → AreSafe (joined_in_column p c) K → AreIdle (lit_house p c) K
-unfolding after_houses
-column-safe {p} c {K} lawful full safe = elim (cases_Bool (white p c)) [
-  | inl on ↦ rw on (safe-stay K (lit-is lawful (inside p lawful c on) on) full safe.one safe.other (seen-in-column p lawful c on safe.one safe.one_in)
-      (seen-in-column p lawful c on safe.other safe.other_in) safe.one_on safe.other_on safe.apart)
-  | inr off ↦ rw off refl
-]
+column-safe {p} c lawful full = run-safe c lawful full (seen-in-column p lawful c)
 
 -- a black cell has no house
 pub black-idle : (p : Light) (c : ℕ) (K : Candidates) → white p c ≡ false → AreIdle (lit_house p c) K
@@ -91,10 +90,7 @@ lit-lies p c d on = elim (cases_Bool (white p c)) [
 ]
 
 pub lits-each : {p : Light} {c : ℕ} → IsLight p → c < light_cells p → AllByRecursion (IsAll (light_cells p)) (lit_house p c)
-lits-each {p} {c} lawful lt = elim (cases_Bool (white p c)) [
-  | inl on ↦ rw on (record { is = lit-is lawful lt on; same = refl }, tt)
-  | inr off ↦ rw off tt
-]
+lits-each {p} {c} lawful lt = all-if _ (λ on. record { is = lit-is lawful lt on; same = refl })
 
 -- ---- once cells of these lines have lost 0, and cells of those 1
 module _ {W : Type 0} (bits : W → ℕ) {room : ℕ} (p : Light) {before now : LineWaits W} {zeros ones : Touched W} (K L : Candidates)
@@ -126,13 +122,13 @@ module _ {W : Type 0} (bits : W → ℕ) {room : ℕ} (p : Light) {before now : 
   runs-rested : (kind : RunKind) (k : ℕ) → k < run_lines p kind → has_bit (waiting_runs bits now kind) k ≡ false → AreIdle (run_houses p kind k) L
   runs-rested Rows k lt off =
       let parts = or_parts _ _ (sym (woken.rows_are k) ∙ off) in
-      row-runs-kept p K L lawful full still inside k
-      (λ c row. value-kept c 0 inside (λ on gone. true≢false (sym (lost_zero c on gone).1 ∙ ap (has_bit (bits zeros.rows)) row ∙ parts.1)))
+      line-kept p (row-runs-of p k lawful) full still inside
+      (λ j less. value-kept _ 0 inside (λ on gone. true≢false (sym (lost_zero _ on gone).1 ∙ ap (has_bit (bits zeros.rows)) (div-mul-add k p.size.w j less) ∙ parts.1)))
       (rested.runs Rows k lt parts.0)
   runs-rested Columns k lt off =
       let parts = or_parts _ _ (sym (woken.columns_are k) ∙ off) in
-      column-runs-kept p K L lawful full still inside lt
-      (λ c column. value-kept c 0 inside (λ on gone. true≢false (sym (lost_zero c on gone).0 ∙ ap (has_bit (bits zeros.columns)) column ∙ parts.1)))
+      line-kept p (column-runs-of p k lawful lt) full still inside
+      (λ j _. value-kept _ 0 inside (λ on gone. true≢false (sym (lost_zero _ on gone).0 ∙ ap (has_bit (bits zeros.columns)) (place-column p.size.w j k lt) ∙ parts.1)))
       (rested.runs Columns k lt parts.0)
 
   whites-rested : (c : ℕ) → c < light_cells p → IsAway bits p now.ones c → AreIdle (lit_house p c) L
@@ -248,8 +244,8 @@ module _ {W : Type 0} (bits : W → ℕ) (p : Light) (before now : LineWaits W) 
 -- Sweeps of the houses of Light Up on planes.
 -- ---- runs and white cells that are visited leave others idle
 pub runs-single : (p : Light) (kind : RunKind) (k : ℕ) → IsLight p → k < run_lines p kind → AllByRecursion (IsSingle (light_cells p)) (run_houses p kind k)
-runs-single p Rows k lawful lt = row-runs-single k lawful
-runs-single p Columns k lawful lt = column-runs-single k lawful
+runs-single p Rows k lawful lt = line-single p (row-runs-of p k lawful)
+runs-single p Columns k lawful lt = line-single p (column-runs-of p k lawful lt)
 
 pub runs-done : {room : ℕ} (p : Light) (kind : RunKind) {from to : Layers} → ArePlanesOf room p from
     → AreVisited (houses_below (run_houses p kind) (run_lines p kind)) from to true → (k : ℕ) → k < run_lines p kind → AreIdle (run_houses p kind k) (has to)

@@ -1,10 +1,10 @@
 -- The count houses of Tents, and visits of them on planes.
-use Rattle.fields_core.proofs.Common.{AreCounts, AreDistinct, ArePlanesAlive, AreVisited, Bool, Column, CountHouse, Extent, IsBroken, IsCounting, IsFurther, IsGrid, IsHouse, IsHouseOf, IsLawful, IsTents, Layers, List, Piece, Row, Tents, [], after_house, all_below, all_below-at, and_from, and_parts, any_below-here, ap, are_near, arith, can_be_paired, cases_eq, cases_lt, column-at, column_of_tents, column_places, column_right, common_steps, count-lawful, count_by-le-length, distinct-filter, eq-eqb, eqb, eqb-true, exactly, false, false_from_ne_true, filling_from_test, filter, free_beside, get_or, get_or-map, get_or-map-range_with_len, get_or-range_with_len, get_or_past, has, has_bit, has_place, has_place-at, has_place-here, has_value, has_value_below, houses_below, inl, inr, is_barred, le-leb, leaves_none_out, length, length-map, length-map-range_with_len, length-range_with_len, lt-ltb, ltb, ltb-true, mul-le-mul_right, names_none_twice, ne_eqb, not, not-true, one_at_least, one_at_most, or_cases, place-filter, place-kept, range_with_len, row-at, row_of_tents, row_places, row_right, slice_index, solves_tents, square_house, steps, suc, sym, tent, tent_cells, tent_houses, tent_rules, touch_right, touches, tree, tree_house, tree_right, trees_beside, true, true≢false, zero, ℕ, ◌%◌, ◌&&◌, ◌+◌, ◌/◌, ◌<◌, ◌||◌, ◌∙◌, ◌∷◌, ◌≡◌, ◌≤◌}
+use Rattle.fields_core.proofs.Common.{AllByRecursion, AreCounts, AreDistinct, ArePlanesAlive, AreVisited, Bool, Column, CountHouse, Extent, IsBroken, IsCounting, IsFurther, IsGrid, IsHouse, IsHouseOf, IsLawful, IsTents, Layers, List, Piece, Row, Tents, ℕ, [], after_house, all_below, all_below-at, and_from, and_parts, any_below-here, ap, are_near, arith, can_be_paired, cases_eq, cases_lt, column-at, column_of_tents, column_places, column_right, common_steps, count-lawful, count_by-le-length, distinct-filter, eq-eqb, eqb, eqb-true, exactly, false, false_from_ne_true, filling_from_test, filter, free_beside, get_or, get_or-map, get_or-map-range_with_len, get_or-range_with_len, get_or_past, has, has_bit, has_place, has_place-at, has_place-here, has_value, has_value_below, houses_below, inl, inr, is_barred, le-leb, leaves_none_out, length, length-map, length-map-range_with_len, length-range_with_len, lt-ltb, ltb, ltb-true, mul-le-mul_right, names_none_twice, ne_eqb, not, not-true, one_at_least, one_at_most, or_cases, place-filter, place-kept, range_with_len, row-at, row_of_tents, row_places, row_right, slice_index, solves_tents, square_house, steps, suc, sym, tent, tent_cells, tent_houses, tent_rules, touch_right, touches, tree, tree_house, tree_right, trees_beside, true, true≢false, zero, ◌%◌, ◌&&◌, ◌+◌, ◌/◌, ◌<◌, ◌||◌, ◌∙◌, ◌∷◌, ◌≡◌, ◌≤◌}
 use Rattle.grid_core.specs.Lines.{line_cells}
-use Rattle.fields_core.proofs.HouseLemmas.{column-long, row-long}
+use Rattle.fields_core.proofs.HouseLemmas.{all-append, all-at, all-houses, all-if, column-long, row-long}
 use Rattle.fields_core.proofs.PlaceLists.{any-here, count-one, count-some, filter-few}
 use Rattle.fields_core.proofs.BesideLemmas.{beside-both, beside-in, cell-after, cell-below, cell-in, steps-distinct, steps-few}
-use Rattle.fields_core.proofs.LightHouseLaws.{EachOf, IsMet, column-distinct, each-append, each-below, each-if, each-one, met-from, row-distinct, small-at}
+use Rattle.fields_core.proofs.LightHouseLaws.{IsMet, column-distinct, met-from, row-distinct, small-at}
 use Rattle.fields_core.proofs.CellLemmas.{column-house, row-house}
 use Rattle.fields_core.proofs.VisitLemmas.{among-back, among-below, among-front, among-house, among-one, visited-one}
 
@@ -192,23 +192,13 @@ square-kind {p} c field right bottom = met-from
     distinct = square-distinct p.size.w c (omega arith)
 
 -- ---- all houses
-each-met : (p : Tents) → IsField p → EachOf (IsMet (tent_cells p) (solves_tents p)) (tent_houses p)
+each-met : (p : Tents) → IsField p → AllByRecursion (IsMet (tent_cells p) (solves_tents p)) (tent_houses p)
 unfolding tent_houses
 each-met p field =
-    each-append (IsMet (tent_cells p) (solves_tents p)) _ _
-    (each-below (IsMet (tent_cells p) (solves_tents p)) (column_of_tents p) p.size.w
-    (λ x lt. each-one (IsMet (tent_cells p) (solves_tents p)) _ (column-kind p x field lt)))
-    (each-append (IsMet (tent_cells p) (solves_tents p)) _ _
-    (each-below (IsMet (tent_cells p) (solves_tents p)) (row_of_tents p) p.size.h
-    (λ y lt. each-one (IsMet (tent_cells p) (solves_tents p)) _ (row-kind p y field lt)))
-    (each-append (IsMet (tent_cells p) (solves_tents p)) _ _
-    (each-below (IsMet (tent_cells p) (solves_tents p)) (tree_house p) (tent_cells p)
-    (λ c lt. each-if (IsMet (tent_cells p) (solves_tents p)) (tree p c) _
-    (λ on. tree-kind field lt on)))
-    (each-below (IsMet (tent_cells p) (solves_tents p)) (square_house p) (tent_cells p)
-    (λ c lt. each-if (IsMet (tent_cells p) (solves_tents p))
-    (ltb (c % p.size.w + 1) p.size.w && ltb (c / p.size.w + 1) p.size.h) _ (λ on.
-    let w = and_parts _ _ on in square-kind c field (ltb-true _ _ w.0) (ltb-true _ _ w.1))))))
+    all-append _ _ _ (all-houses _ (column_of_tents p) _ (λ x lt. (column-kind p x field lt, tt)))
+    (all-append _ _ _ (all-houses _ (row_of_tents p) _ (λ y lt. (row-kind p y field lt, tt)))
+    (all-append _ _ _ (all-houses _ (tree_house p) _ (λ c lt. all-if _ (tree-kind field lt)))
+    (all-houses _ (square_house p) _ (λ c lt. all-if _ (λ on. let w = and_parts _ _ on in square-kind c field (ltb-true _ _ w.0) (ltb-true _ _ w.1))))))
 
 -- ---- a puzzle's field
 line-few : (size : Extent) (line : ℕ) → size.w ≤ 256 → size.h ≤ 256 → line_cells size line ≤ 256
@@ -226,13 +216,13 @@ pub tent-counting : {p : Tents} → IsTents p → IsCounting (tent_cells p) (is_
 unfolding is_barred
 tent-counting {p} is = record {
   few_cells = let b = tent-field is in omega (arith, mul-le-mul_right p.size.h b.w_few);
-  are_houses = λ h lt. (each-met p (tent-field is) h lt).is_house;
+  are_houses = λ h lt. (all-at _ _ (each-met p (tent-field is)) lt).is_house;
   blocked_zero = λ g grid good c lt bare. elim (or_cases _ _ bare) [
     | inl on ↦ tree-bare p g good lt on
     | inr alone ↦ zero-from (small-at grid c) (λ one.
         let w = tent-tree p grid good c (eq-eqb _ _ one) in true≢false (sym (any-here (tree p) _ w.0 w.2 w.1) ∙ not-true _ alone))
   ];
-  meets_each = λ g grid good h lt. (each-met p (tent-field is) h lt).met g grid good;
+  meets_each = λ g grid good h lt. (all-at _ _ (each-met p (tent-field is)) lt).met g grid good;
 }
   where
     zero-from : {v : ℕ} → v < 2 → (v ≡ 1 → ⊥) → v ≡ 0

@@ -1,11 +1,11 @@
 -- The squares of two rows of Tents, and visits of them.
-use Rattle.fields_core.proofs.Common.{AllByRecursion, ArePlanesAlive, AreVisited, Bool, Candidates, CountHouse, Extent, IsFurther, IsHouse, IsTents, Layers, Row, Tents, [], and-false, and_from, and_parts, any_below, any_below-here, any_below-none, any_below-some, ap, arith, bit_of, cases_Bool, cases_lt, common_steps, cond, count_by, covers, crosses, div-mul-add, eq-eqb, eqb, eqb-true, false, false≢true, fun_ext, further-none, has, has_bit, has_place, houses_below, inl, inr, le-ltb, lies_in, lies_in_first, list_any, lt-ltb, ltb, ltb-true, mod-lt, mul-le-mul_right, not, not-false, not-true, one_at_most, or_cases, or_left, or_parts, or_right, place-column, refl, square_house, squares_of_row, subst, suc, sym, tent_cells, true, true≢false, two_rows, without_taking, without_value, zero, ℕ, ◌%◌, ◌&&◌, ◌*◌, ◌+◌, ◌-◌, ◌/◌, ◌<◌, ◌||◌, ◌∙◌, ◌∷◌, ◌≡◌, ◌≢◌, ◌≤◌, ◌⊎◌}
+use Rattle.fields_core.proofs.Common.{AllByRecursion, ArePlanesAlive, AreVisited, Bool, Candidates, CountHouse, Extent, IsFurther, IsHouse, IsTents, Layers, Row, Tents, [], and-false, and_from, and_parts, any_below, any_below-here, any_below-none, any_below-some, ap, arith, bit_of, cases_Bool, cases_lt, common_steps, cond, count_by, covers, crosses, div-mul-add, eq-eqb, eqb, eqb-true, false, false≢true, fun_ext, has, has_bit, has_place, houses_below, inl, inr, le-ltb, lies_in, lies_in_first, list_any, lt-ltb, ltb, ltb-true, mod-lt, mul-le-mul_right, not, not-false, not-true, one_at_most, or_cases, or_left, or_parts, or_right, place-column, refl, square_house, squares_of_row, subst, suc, sym, tent_cells, true, two_rows, without_taking, without_value, zero, ℕ, ◌%◌, ◌&&◌, ◌*◌, ◌+◌, ◌-◌, ◌/◌, ◌<◌, ◌||◌, ◌∙◌, ◌∷◌, ◌≡◌, ◌≢◌, ◌≤◌, ◌⊎◌}
 unfoldable use Rattle.fields_core.proofs.VisitLemmas.{is_met, without_met}
 use Rattle.fields_core.proofs.CellLemmas.{cell-is, same-truth}
 use Rattle.fields_core.proofs.PlaceLists.{count-cons}
 use Rattle.fields_core.proofs.TentCounting.{square-is, square_places}
 use Rattle.fields_core.proofs.HouseLemmas.{all-houses, any-houses}
-use Rattle.fields_core.proofs.VisitLemmas.{IsFull, IsOneAtMost, below-rows, visited-none, visits-met, visits-two, zeros_of}
+use Rattle.fields_core.proofs.VisitLemmas.{IsFull, IsOneAtMost, below-rows, visited-dies, visited-left, visited-none, visits-met, visits-two, zeros_of}
 use Rattle.fields_core.proofs.PartLemmas.{struck-alive, value-in}
 
 -- The squares of two rows of Tents, by words of the columns with a cell that has no 0.
@@ -237,20 +237,11 @@ module _ (p : Tents) (y : ℕ) (from : Layers) (room twice must : ℕ) (lawful :
   two-die x d e lt ne row_d column_d row_e column_e off_d off_e =
       let in_d = square-has y x d lt ∙ and_from _ _ row_d column_d in
       let in_e = square-has y x e lt ∙ and_from _ _ row_e column_e in
-      record {
-        left = λ on. absurd (false≢true on);
-        dies = λ _. (
-          d,
-          rw size ((house-is p y lawful low x lt).within d in_d),
-          λ v small.
-              visits-two (tent_cells p) (squares_of_row p y) (has from) d e v
-              (each-square p y lawful low (λ house. IsHouse (tent_cells p) house × (house.most ≡ 1)) (λ k less. (house-is p y lawful low k less, refl)))
-              ne (some-square p y lawful low (λ house. has_place house.places d && has_place house.places e) x lt (and_from _ _ in_d in_e))
-              off_d off_e small,
-        );
-        alive = alive;
-        further = further-none from;
-      }
+      visited-dies d (rw size ((house-is p y lawful low x lt).within d in_d)) (λ v small.
+      visits-two (tent_cells p) (squares_of_row p y) (has from) d e v
+      (each-square p y lawful low (λ house. IsHouse (tent_cells p) house × (house.most ≡ 1)) (λ k less. (house-is p y lawful low k less, refl)))
+      ne (some-square p y lawful low (λ house. has_place house.places d && has_place house.places e) x lt (and_from _ _ in_d in_e))
+      off_d off_e small) alive
 
   must-cell : (u : ℕ) → u < width → must_in zeros width y u ≡ true → (d : ℕ) × (in_rows width y d ≡ true) × (d % width ≡ u) × (zeros d ≡ false)
   must-cell u lt on = elim (cases_Bool (zeros (y * width + u))) [
@@ -308,12 +299,9 @@ module _ (p : Tents) (y : ℕ) (from : Layers) (room twice must : ℕ) (lawful :
       → has to ≡ without_value from.size.w (two_rows y near) 2 1 (has from) → IsFurther from to
       → AreVisited (squares_of_row p y) from to true
   unfolding without_value without_met
-  squares-met pairs near {to} once is apart near_is left further = record {
-    left = λ _. met ∙ sym (visits-met (squares_of_row p y) (has from) full each);
-    dies = λ e. absurd (true≢false e);
-    alive = struck-alive from to (two_rows y near) 2 1 further.same_size (omega arith) alive left;
-    further = further;
-  }
+  squares-met pairs near {to} once is apart near_is left further =
+      visited-left (met ∙ sym (visits-met (squares_of_row p y) (has from) full each))
+      (struck-alive from to (two_rows y near) 2 1 further.same_size (omega arith) alive left) further
     where
       full : IsFull (tent_cells p) (has from)
       full = record { low = value-in from; some = λ c lt. alive c (rw size lt) }

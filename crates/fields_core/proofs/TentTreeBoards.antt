@@ -1,9 +1,9 @@
 -- What visits of the trees of a row take from a board.
-use Rattle.fields_core.proofs.Common.{ArePlanesAlive, AreVisited, Bool, Candidates, CountHouse, IsFurther, IsHouse, IsInside, IsRowOf, IsTents, Layers, List, Tents, [], after_house, after_houses, and-true, and_parts, any_below, any_below-none, any_below-same, any_below-some, ap, arith, beside, cases_Bool, common_steps, count_by, count_by-le-length, eqb, false, false_from_ne_true, filter, free_beside, fun_ext, further-none, has, has_bit, has_place, has_place-here, houses_below, inl, inr, is_beside, length, length-filter, list_any, lt-ltb, ltb, ltb-false, ltb-true, not, not-false, not-true, one_at_least, place-in, refl, slice_index, suc, sym, tent_cells, tree, tree_house, trees_of_row, true, true≢false, wants_tent, without_zeros, zero, ℕ, ◌&&◌, ◌*◌, ◌++◌, ◌+◌, ◌-◌, ◌<◌, ◌||◌, ◌∙◌, ◌∷◌, ◌≡◌, ◌≤◌, ◌⊎◌}
+use Rattle.fields_core.proofs.Common.{ArePlanesAlive, AreVisited, Bool, Candidates, CountHouse, IsFurther, IsHouse, IsInside, IsRowOf, IsTents, Layers, List, Tents, [], after_house, after_houses, and-true, and_parts, any_below, any_below-none, any_below-same, any_below-some, ap, arith, beside, cases_Bool, common_steps, count_by, count_by-le-length, eqb, false, false_from_ne_true, filter, free_beside, fun_ext, has, has_bit, has_place, has_place-here, houses_below, inl, inr, is_beside, length, length-filter, list_any, lt-ltb, ltb, ltb-false, ltb-true, not, not-false, not-true, one_at_least, place-in, refl, slice_index, suc, sym, tent_cells, tree, tree_house, trees_of_row, true, true≢false, wants_tent, without_zeros, zero, ℕ, ◌&&◌, ◌*◌, ◌++◌, ◌+◌, ◌-◌, ◌<◌, ◌||◌, ◌∙◌, ◌∷◌, ◌≡◌, ◌≤◌, ◌⊎◌}
 use Rattle.fields_core.proofs.PartLemmas.{value-in}
 use Rattle.fields_core.proofs.PlaceLists.{count-cons, count-none, count-some, filter-has}
 use Rattle.fields_core.proofs.TentCounting.{tree-is}
-use Rattle.fields_core.proofs.VisitLemmas.{below-rest, below-rows, visits-append, visits-inside}
+use Rattle.fields_core.proofs.VisitLemmas.{below-rest, below-rows, visited-dies, visited-left, visits-append, visits-inside}
 use Rattle.fields_core.proofs.HouseLemmas.{below-more}
 use Rattle.fields_core.proofs.AtLeastLemmas.{IsFilled, IsOfTwo, least-board, least-broken}
 
@@ -140,16 +140,8 @@ module _ (p : Tents) (y : ℕ) (from : Layers) (room : ℕ) (wants some broken :
       let none : may p (has from) y w.0 ≡ 0 = (let few = ltb-false _ _ (sym (some_is w.0 lt) ∙ not-true _ parts.1) in omega (arith, few, may-is w.0)) in
       let there = has_place-here (free_beside p (y * p.size.w + w.0)) 0 long in
       let d = slice_index (free_beside p (y * p.size.w + w.0)) 0 in
-      record {
-        left = λ e. absurd (true≢false (sym e));
-        dies = λ _. (
-          d,
-          rw size ((tree-is p lawful (place-in p.size.w p.size.h y w.0 y_in lt) here.0).within d there),
-          λ v low. trees-dead p lawful (has from) y y_in (value-in from) full d lt here.0 none there low,
-        );
-        alive = alive;
-        further = further-none from;
-      }
+      visited-dies d (rw size ((tree-is p lawful (place-in p.size.w p.size.h y w.0 y_in lt) here.0).within d there))
+      (λ v low. trees-dead p lawful (has from) y y_in (value-in from) full d lt here.0 none there low) alive
 
   filled : any_below (has_bit broken) room ≡ false → AreFilled p (has from) y p.size.w
   filled off x lt is = elim (cases_Bool (ltb 0 (length (free_beside p (y * p.size.w + x))))) [
@@ -182,12 +174,8 @@ module _ (p : Tents) (y : ℕ) (from : Layers) (room : ℕ) (wants some broken :
       (fun_ext λ c. ap (λ b. (not (tree p c) && has from c 1) && b)
       (any_below-same (λ x. has_bit ones x && has_place (beside p.size (y * p.size.w + x)) c) (λ x. lone p (has from) y x && has_place (beside p.size (y * p.size.w + x)) c) p.size.w
       (λ x lt. rw (same x lt) refl))) in
-      record {
-        left = λ _. board ∙ sym (trees-board p lawful (has from) y y_in (value-in from) full p.size.w (omega arith) (filled off));
-        dies = λ e. absurd (true≢false e);
-        alive = λ c lt. rw board (zeros-full (struck p (has from) y p.size.w) (has from) c (struck-one p (has from) y p.size.w c) (alive c (rw (further.same_size) at lt)));
-        further = further;
-      }
+      visited-left (board ∙ sym (trees-board p lawful (has from) y y_in (value-in from) full p.size.w (omega arith) (filled off)))
+      (λ c lt. rw board (zeros-full (struck p (has from) y p.size.w) (has from) c (struck-one p (has from) y p.size.w c) (alive c (rw (further.same_size) at lt)))) further
 
 -- ---- the trees of all rows
 pub trees-are : (p : Tents) → houses_below (trees_of_row p) p.size.h ≡ houses_below (tree_house p) (tent_cells p)

@@ -53,21 +53,13 @@ beside-count : (size : Extent) (passes : ℕ → Bool) (y x : ℕ) → x < size.
     ≡ num (ltb 0 y && passes ((y - 1) * size.w + x)) + num (ltb 0 x && passes (y * size.w + (x - 1)))
     + num (ltb (x + 1) size.w && passes (y * size.w + (x + 1))) + num (ltb (y + 1) size.h && passes ((y + 1) * size.w + x))
 beside-count size passes y x lt =
-    let u = cell_if (ltb 0 y) ((y - 1) * size.w + x) in let l = cell_if (ltb 0 x) (y * size.w + (x - 1)) in
-    let r = cell_if (ltb (x + 1) size.w) (y * size.w + (x + 1)) in
-    let d = cell_if (ltb (y + 1) size.h) ((y + 1) * size.w + x) in
-    ap (count_by passes) (beside-is size y lt)
-    ∙ rw (count-append passes ((u ++ l) ++ r) d, count-append passes (u ++ l) r, count-append passes u l, count-if passes (ltb 0 y) ((y - 1) * size.w + x), count-if passes (ltb 0 x) (y * size.w + (x - 1)), count-if passes (ltb (x + 1) size.w) (y * size.w + (x + 1)), count-if passes (ltb (y + 1) size.h) ((y + 1) * size.w + x)) refl
+    ap (count_by passes) (beside-is size y lt) ∙ simp (count-append, count-if) refl
 
 pub beside-has : (size : Extent) (y : ℕ) {x : ℕ} (c : ℕ) → x < size.w → has_place (beside size (y * size.w + x)) c
     ≡ (((ltb 0 y && eqb ((y - 1) * size.w + x) c) || (ltb 0 x && eqb (y * size.w + (x - 1)) c))
     || (ltb (x + 1) size.w && eqb (y * size.w + (x + 1)) c)) || (ltb (y + 1) size.h && eqb ((y + 1) * size.w + x) c)
 beside-has size y {x} c lt =
-    let u = cell_if (ltb 0 y) ((y - 1) * size.w + x) in let l = cell_if (ltb 0 x) (y * size.w + (x - 1)) in
-    let r = cell_if (ltb (x + 1) size.w) (y * size.w + (x + 1)) in
-    let d = cell_if (ltb (y + 1) size.h) ((y + 1) * size.w + x) in
-    ap (λ (xs : List ℕ). has_place xs c) (beside-is size y lt)
-    ∙ rw (has-append ((u ++ l) ++ r) d c, has-append (u ++ l) r c, has-append u l c, has-if (ltb 0 y) ((y - 1) * size.w + x) c, has-if (ltb 0 x) (y * size.w + (x - 1)) c, has-if (ltb (x + 1) size.w) (y * size.w + (x + 1)) c, has-if (ltb (y + 1) size.h) ((y + 1) * size.w + x) c) refl
+    ap (λ (xs : List ℕ). has_place xs c) (beside-is size y lt) ∙ simp (has-append, has-if) refl
 
 -- ---- the words beside a place
 module _ {W : Type 0} (bits : W → ℕ) (room : ℕ) (size : Extent) (passes : ℕ → Bool) (y x : ℕ) (near : ThreeRows W)

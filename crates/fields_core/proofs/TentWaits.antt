@@ -1,5 +1,5 @@
 -- Tents on planes: what waits, and what a closing asks.
-use Rattle.fields_core.proofs.Common.{AllByRecursion, AreBare, AreIdle, AreLinesOf, ArePlanes, ArePlanesAlive, AreTentsRested, AreTentsWoken, AreTentsWritten, AreVisited, Bool, Candidates, Columns, CountHouse, HasBoard, IsClosed, IsClosedAround, IsClosedBut, IsFieldOf, IsFurther, IsHouse, IsInside, IsLostIn, IsSweep, IsTents, Layers, List, Option, Rows, Some, Squares, Tents, Touched, Trees, Waits, [], all_of, all_of_kind, and_parts, ap, append_assoc, arith, back_at, cases_Bool, cases_eq, cells_of, column_of_tents, column_places, common_steps, eqb, eqb-true, exactly, false, false_from_ne_true, free_beside, get_or, get_or-append_right, get_or-map-range_with_len, has, has_bit, has_place-at, houses_below, inl, inr, is_barred, kind_houses, kind_lines, length, length-append, length-map-range_with_len, lt-ltb, ltb, ltb-true, map, needs_of, no_count_house, not, one_at_least, one_at_most, or_cases, or_left, or_parts, place-filter, place-in, refl, row_of_tents, row_places, slice_index, solves_tents, square_house, squares_of_row, start_of, suc, sym, tent_cells, tent_counts, tent_houses, tent_rules, tree, tree_house, trees_of_row, true, true≢false, waiting, zero, ℕ, ◌%◌, ◌&&◌, ◌*◌, ◌++◌, ◌+◌, ◌-◌, ◌/◌, ◌<◌, ◌∙◌, ◌∷◌, ◌≡◌, ◌≤◌, ◌⊎◌}
+use Rattle.fields_core.proofs.Common.{AllByRecursion, AreBare, AreIdle, AreLinesOf, ArePlanes, ArePlanesAlive, AreTentsRested, AreTentsWoken, AreTentsWritten, AreVisited, Bool, Candidates, Columns, CountHouse, HasBoard, IsClosed, IsClosedAround, IsClosedBut, IsFieldOf, IsFurther, IsHouse, IsInside, IsLostIn, IsSweep, IsTents, Layers, List, Option, Rows, Some, Squares, Tents, Touched, Trees, Waits, [], all_of, all_of_kind, and_parts, ap, append_assoc, arith, back_at, cases_Bool, cases_eq, cells_of, column_of_tents, column_places, common_steps, eqb, eqb-true, exactly, false, false_from_ne_true, free_beside, get_or, get_or-append_right, has, has_bit, houses_below, inl, inr, is_barred, kind_houses, kind_lines, length, length-append, lt-ltb, ltb, ltb-true, map, needs_of, no_count_house, not, one_at_least, one_at_most, or_cases, or_left, or_parts, place-filter, place-in, refl, row_of_tents, row_places, slice_index, solves_tents, square_house, squares_of_row, start_of, suc, sym, tent_cells, tent_counts, tent_houses, tent_rules, tree, tree_house, trees_of_row, true, true≢false, waiting, zero, ℕ, ◌%◌, ◌&&◌, ◌*◌, ◌++◌, ◌+◌, ◌-◌, ◌/◌, ◌<◌, ◌∙◌, ◌∷◌, ◌≡◌, ◌≤◌, ◌⊎◌}
 use Rattle.fields_core.specs.declared.planes.tents.waits.Kind.{Kind}
 use Rattle.fields_core.proofs.HouseOrder.{IsSingle, single-keeps, singles-kept}
 use Rattle.fields_core.proofs.VisitLemmas.{IsFull}
@@ -10,28 +10,21 @@ use Rattle.fields_core.proofs.TentCounting.{column-is, row-is, square-is, square
 use Rattle.fields_core.proofs.TentSquareVisits.{square-has, squares-are}
 use Rattle.fields_core.proofs.BesideLemmas.{cell-parts, step-lies, steps-some}
 use Rattle.fields_core.proofs.TentTreeBoards.{trees-are}
-use Rattle.fields_core.proofs.HouseLemmas.{all-houses, column-long, row-long}
+use Rattle.fields_core.proofs.HouseLemmas.{all-houses, all-if, column-long, row-long}
 use Rattle.fields_core.proofs.PlaneSweeps.{around-inside, around-lost, back-whole, cells-alive, full-around, full-before, spread-off, value-kept, visits-swept}
 unfoldable use Rattle.fields_core.proofs.IdleLemmas.{any_has}
 use Rattle.engine_core.proofs.JudgeLemmas.{scope_le-longest}
 use Rattle.fields_core.specs.declared.planes.tents.tent_notes.TentNotes.{TentNotes}
+use Rattle.fields_core.proofs.CellLemmas.{place-on}
 
 -- What waits of Tents: where its houses lie, what stays idle while others of a kind are visited, and what is idle where a closing begins.
 -- ---- where houses lie
 module _ (p : Tents) (c : ℕ) (pos : 0 < p.size.w) where
   pub column-lies : {x : ℕ} → x < p.size.w → any_has (column_of_tents p x) c ≡ true → c % p.size.w ≡ x
-  column-lies {x} lt on =
-      let w = has_place-at (column_places p.size x) c (any-one _ c on) in
-      let lk : w.0 < p.size.h = omega (arith, w.1, length-map-range_with_len (λ y. y * p.size.w + x) 0 p.size.h) in
-      let at : w.0 * p.size.w + x ≡ c = sym (get_or-map-range_with_len (λ y. y * p.size.w + x) 0 p.size.h w.0 w.0 0 lk (omega arith)) ∙ w.2 in
-      (cell-parts w.0 c lt (sym at)).1
+  column-lies {x} lt on = let w = place-on (λ y. y * p.size.w + x) p.size.h c (any-one _ c on) in (cell-parts w.0 c lt (sym w.2)).1
 
   pub row-lies : {y : ℕ} → any_has (row_of_tents p y) c ≡ true → c / p.size.w ≡ y
-  row-lies {y} on =
-      let w = has_place-at (row_places p.size y) c (any-one _ c on) in
-      let lk : w.0 < p.size.w = omega (arith, w.1, length-map-range_with_len (λ x. y * p.size.w + x) 0 p.size.w) in
-      let at : y * p.size.w + w.0 ≡ c = sym (get_or-map-range_with_len (λ x. y * p.size.w + x) 0 p.size.w w.0 w.0 0 lk (omega arith)) ∙ w.2 in
-      (cell-parts y c lk (sym at)).0
+  row-lies {y} on = let w = place-on (λ x. y * p.size.w + x) p.size.w c (any-one _ c on) in (cell-parts y c w.1 (sym w.2)).0
 
   trees-lie : {y : ℕ} → any_has (trees_of_row p y) c ≡ true
       → (c / p.size.w ≡ y) ⊎ ((c / p.size.w + 1 ≡ y) ⊎ (c / p.size.w ≡ y + 1))
@@ -117,30 +110,17 @@ module _ {W : Type 0} (bits : W → ℕ) {room : ℕ} (p : Tents) {before now : 
 
 -- ---- the houses of trees and squares
 pub trees-each : {p : Tents} {y : ℕ} → IsTents p → y < p.size.h → AllByRecursion (IsAll (tent_cells p)) (trees_of_row p y)
-trees-each {p} {y} lawful lt = all-houses (IsAll (tent_cells p)) (λ x. tree_house p (y * p.size.w + x)) p.size.w (λ x less. by x less (cases_Bool (tree p (y * p.size.w + x))))
-  where
-    by : (x : ℕ) → x < p.size.w → (tree p (y * p.size.w + x) ≡ true) ⊎ (tree p (y * p.size.w + x) ≡ false)
-        → AllByRecursion (IsAll (tent_cells p)) (tree_house p (y * p.size.w + x))
-    by x less (inr off) = rw off tt
-    by x less (inl is) = rw is (record { is = tree-is p lawful (place-in p.size.w p.size.h y x lt less) is; same = refl }, tt)
+trees-each {p} {y} lawful lt = all-houses (IsAll (tent_cells p)) (λ x. tree_house p (y * p.size.w + x)) p.size.w
+    (λ x less. all-if _ (λ is. record { is = tree-is p lawful (place-in p.size.w p.size.h y x lt less) is; same = refl }))
 
 pub squares-each : {p : Tents} {y : ℕ} → IsTents p → y < p.size.h → AllByRecursion (IsSingle (tent_cells p)) (squares_of_row p y)
-squares-each {p} {y} lawful lt = all-houses (IsSingle (tent_cells p)) (λ x. square_house p (y * p.size.w + x)) p.size.w (λ x less. by x less (cases_Bool _))
-  where
-    by : (x : ℕ) → x < p.size.w → ((ltb ((y * p.size.w + x) % p.size.w + 1) p.size.w && ltb ((y * p.size.w + x) / p.size.w + 1) p.size.h) ≡ true)
-        ⊎ ((ltb ((y * p.size.w + x) % p.size.w + 1) p.size.w && ltb ((y * p.size.w + x) / p.size.w + 1) p.size.h) ≡ false)
-        → AllByRecursion (IsSingle (tent_cells p)) (square_house p (y * p.size.w + x))
-    by x less (inr off) = rw off tt
-    by x less (inl is) =
-        let both = and_parts _ _ is in
-        rw is (
-          record {
-            is = square-is p lawful (place-in p.size.w p.size.h y x lt less) (ltb-true _ _ both.0) (ltb-true _ _ both.1);
-            least_is = refl;
-            most_is = refl;
-          },
-          tt,
-        )
+squares-each {p} {y} lawful lt = all-houses (IsSingle (tent_cells p)) (λ x. square_house p (y * p.size.w + x)) p.size.w (λ x less. all-if _ (λ is.
+    let both = and_parts _ _ is in
+    record {
+      is = square-is p lawful (place-in p.size.w p.size.h y x lt less) (ltb-true _ _ both.0) (ltb-true _ _ both.1);
+      least_is = refl;
+      most_is = refl;
+    }))
 
 -- what does not wait on a board stays idle once cells of these lines have lost values
 pub rested-board : {W : Type 0} {bits : W → ℕ} {room : ℕ} {p : Tents} {before now : Waits W} {zeros ones : Touched W} {K L : Candidates}

@@ -57,6 +57,15 @@ pub visited-none : {p : Layers} → ArePlanesAlive p → AreVisited [] p p true
 unfolding after_houses
 visited-none {p} alive = record { left = λ _. refl; dies = λ e. absurd (true≢false e); alive = alive; further = further-none p }
 
+-- each house has a filling
+pub visited-left : {houses : List CountHouse} {p q : Layers} → has q ≡ after_houses houses (has p) → ArePlanesAlive q → IsFurther p q → AreVisited houses p q true
+visited-left left alive further = record { left = λ _. left; dies = λ e. absurd (true≢false e); alive = alive; further = further }
+
+-- a cell is left without a value
+pub visited-dies : {houses : List CountHouse} {p : Layers} (c : ℕ) → c < cells_of p → ((v : ℕ) → v < 2 → after_houses houses (has p) c v ≡ false)
+    → ArePlanesAlive p → AreVisited houses p p false
+visited-dies {p} c lt none alive = record { left = λ e. absurd (true≢false (sym e)); dies = λ _. (c, lt, none); alive = alive; further = further-none p }
+
 -- of one house, which has a cell
 pub visited-one : {house : CountHouse} {p q : Layers} {fills : Bool} → IsHouse (cells_of p) house
     → 0 < length house.places → (fills ≡ true → has q ≡ after_house house (has p))

@@ -120,7 +120,7 @@ impl<P: CountGame> Rules for CountRules<P> {
     ghost serves_smaller = { λ w need had f s. subst (P.serves w) (sym f.same_cells) s };
 
     fn cells(&self) -> usize {
-        self.puzzle.cells()
+        self.puzzle.size().cells()
     }
 
     fn values(&self) -> u8 {
@@ -132,7 +132,7 @@ impl<P: CountGame> Rules for CountRules<P> {
     }
 
     fn bound(&self) -> usize {
-        self.puzzle.cells() + 1
+        self.cells() + 1
     }
 
     fn scope_len(&self, house: usize) -> usize {
@@ -155,7 +155,7 @@ impl<P: CountGame> Rules for CountRules<P> {
     /// A blocked cell has only 0, and all other sets are full.
     fn start(&self, board: &mut Board) {
         board.fill();
-        for place in 0..self.puzzle.cells() {
+        for place in 0..self.cells() {
             if self.puzzle.is_blocked(place) {
                 board.strike(place, 1);
             }

@@ -36,6 +36,8 @@ impl CountGame for LightPuzzle {
 
     ghost told = { light_house };
 
+    ghost all_short = { λ needs. needs.cells ≤ 128 };
+
     ghost serves = { λ _ _. Unit {0} };
 
     fn copied(&self, alloc: Global) -> Result<LightPuzzle, AllocError> {
@@ -57,8 +59,8 @@ impl CountGame for LightPuzzle {
         }
     }
 
-    fn cells(&self) -> usize {
-        self.size().cells()
+    fn size(&self) -> Size {
+        LightPuzzle::size(self)
     }
 
     fn is_blocked(&self, place: usize) -> bool {
@@ -72,18 +74,14 @@ impl CountGame for LightPuzzle {
     fn accepts(&self, _scratch: &mut (), grid: &Grid) -> bool {
         check_lights(self, grid).is_none()
     }
+
+    ghost cells_are = { λ _. refl };
 }
 
 impl PlaneGame for LightPuzzle {
     type Short = LightNotes<u64>;
 
     type Long = LightNotes<u128>;
-
-    ghost all_short = { λ needs. needs.cells ≤ 128 };
-
-    fn size(&self) -> Size {
-        LightPuzzle::size(self)
-    }
 
     fn are_short(&self, made: Needs) -> bool {
         made.cells <= 128 // each side is 2 at least
@@ -92,6 +90,4 @@ impl PlaneGame for LightPuzzle {
     fn completes(&self, names: &[HouseName<LightHouse>], _scratch: &mut (), _grid: &Grid) -> bool {
         !has_lonely_number(self, names)
     }
-
-    ghost cells_are = { λ _. refl };
 }

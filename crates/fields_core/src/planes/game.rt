@@ -1,14 +1,14 @@
 //! What only a game knows of the planes that its search stands on.
 
-ghost use Rattle.std.specs.Prelude.{◌*◌, ◌≡◌, ℕ, true};
+ghost use Rattle.std.specs.Prelude.{◌≡◌, ℕ, true};
 ghost use Rattle.engine_core.specs.ClosingList.{IsAlive};
-ghost use Rattle.fields_core.specs.Common.{AreKept, AreMet, AreNamed, AreShortEnough, HasBoard, IsClosedBut, IsClosedIn, IsClosedTo, IsCounted, IsExtent, IsFurther, IsGrid, IsSweep, Layers, Needs, has, needs_in, needs_of, rules_of};
+ghost use Rattle.fields_core.specs.Common.{AreKept, AreMet, AreNamed, HasBoard, IsClosedBut, IsClosedIn, IsClosedTo, IsCounted, IsFurther, IsGrid, IsSweep, Layers, Needs, has, needs_in, needs_of, rules_of};
 
 use crate::count::game::CountGame;
 use crate::count::name::HouseName;
 use crate::count::rules::CountRules;
 use engine_core::{Closing, Needs, PlaneNotes, Taken};
-use grid_core::{Grid, Planes, Size, Word};
+use grid_core::{Grid, Planes, Word};
 
 /// A puzzle of count houses that is closed on planes.
 pub trait PlaneGame: CountGame {
@@ -18,18 +18,9 @@ pub trait PlaneGame: CountGame {
     /// What its rules keep beside planes of words of 128 places.
     type Long: PlaneNotes<u128, CountRules<Self>>;
 
-    /// Words of 64 places are long enough for all puzzles of these sizes.
-    ghost all_short: { Needs → Type 0 };
-
-    /// The size of its grid.
-    fn size(&self) -> Size
-        ensures value { result ≡ Self.extent self.now }
-        ensures lawful { IsExtent result }
-        ensures short { AreShortEnough all_short (rules_of (Self.counts self.now)) result };
-
     /// Whether words of 64 places are known to be long enough for all puzzles of these sizes.
     fn are_short(&self, made: Needs) -> bool
-        ensures { result ≡ true → all_short (needs_in made) };
+        ensures { result ≡ true → Self.all_short (needs_in made) };
 
     /// Whether the grid is a solution, where blocked cells hold 0 and each house with a cell is met, by these names.
     fn completes(
@@ -44,9 +35,6 @@ pub trait PlaneGame: CountGame {
         requires met { AreMet (Self.counts self.now) grid.now }
         ensures solution { result ≡ (Self.counts self.now).is_solution grid.now }
         ensures keeps { (n : ℕ) → Self.serves scratch.old n → Self.serves scratch.new n };
-
-    /// The grid has the cells of the board.
-    ghost cells_are: { (p : Self) → (Self.extent p).w * (Self.extent p).h ≡ (Self.counts p).cells };
 }
 
 /// What is kept of a puzzle beside planes of such words, and which houses wait while a board is closed by sweeps.
@@ -76,40 +64,45 @@ pub trait SweepNotes<W: Word, P: CountGame>: Sized {
         ensures swept { IsSweep (rules_of (P.counts puzzle.now)) planes.old planes.new result }
         ensures ready { result ≡ true → ready puzzle.now planes.new self.new }
         ensures kept { AreKept fits written self.old self.new };
+}
 
-    /// Closes the board by sweeps, until one takes nothing or a cell would be left without a value: what board is left then
-    /// is open. Those sweeps count that took something, and the one that stopped; one at least. Where `from` names a cell,
-    /// the board was closed before that cell lost a value.
-    final fn close(&mut self, planes: &mut Planes<W>, puzzle: &P, from: Option<usize>) -> Taken
-        requires counted { IsCounted (P.counts puzzle.now) }
-        requires fits { fits self.old (needs_of (rules_of (P.counts puzzle.now))) }
-        requires written { written puzzle.now self.old }
-        requires board { HasBoard (rules_of (P.counts puzzle.now)) (P.extent puzzle.now) W.room
-            planes.old }
-        requires closed_but { IsClosedBut (rules_of (P.counts puzzle.now)) (has planes.old) from }
-        ensures taken { IsClosedTo (P.counts puzzle.now) planes.old planes.new result.closing }
-        ensures turns { IsClosedIn (rules_of (P.counts puzzle.now)) (has planes.old) result.turns }
-        ensures alive { IsAlive (rules_of (P.counts puzzle.now)) (has planes.new) }
-        ensures further { IsFurther planes.old planes.new }
-        ensures kept { AreKept fits written self.old self.new }
-    {
-        self.begin(planes, puzzle, from);
-        let mut sweeps = 0;
-        'closing: loop {
-            let before = planes.len();
-            if !self.sweep(planes, puzzle) {
-                return Taken {
-                    closing: Closing::Dead,
-                    turns: sweeps + 1,
-                };
-            }
-            if planes.len() == before {
-                return Taken {
-                    closing: Closing::Open,
-                    turns: sweeps.max(1),
-                };
-            }
-            sweeps += 1;
+/// Closes the board by sweeps, until one takes nothing or a cell would be left without a value: what board is left then
+/// is open. Those sweeps count that took something, and the one that stopped; one at least. Where `from` names a cell,
+/// the board was closed before that cell lost a value.
+pub(crate) fn close<W: Word, P: CountGame, N: SweepNotes<W, P>>(
+    notes: &mut N,
+    planes: &mut Planes<W>,
+    puzzle: &P,
+    from: Option<usize>,
+) -> Taken
+    requires counted { IsCounted (P.counts puzzle.now) }
+    requires fits { N.fits notes.old (needs_of (rules_of (P.counts puzzle.now))) }
+    requires written { N.written puzzle.now notes.old }
+    requires board { HasBoard (rules_of (P.counts puzzle.now)) (P.extent puzzle.now) W.room
+        planes.old }
+    requires closed_but { IsClosedBut (rules_of (P.counts puzzle.now)) (has planes.old) from }
+    ensures taken { IsClosedTo (P.counts puzzle.now) planes.old planes.new result.closing }
+    ensures turns { IsClosedIn (rules_of (P.counts puzzle.now)) (has planes.old) result.turns }
+    ensures alive { IsAlive (rules_of (P.counts puzzle.now)) (has planes.new) }
+    ensures further { IsFurther planes.old planes.new }
+    ensures kept { AreKept N.fits N.written notes.old notes.new }
+{
+    notes.begin(planes, puzzle, from);
+    let mut sweeps = 0;
+    'closing: loop {
+        let before = planes.len();
+        if !notes.sweep(planes, puzzle) {
+            return Taken {
+                closing: Closing::Dead,
+                turns: sweeps + 1,
+            };
         }
+        if planes.len() == before {
+            return Taken {
+                closing: Closing::Open,
+                turns: sweeps.max(1),
+            };
+        }
+        sweeps += 1;
     }
 }

@@ -35,6 +35,8 @@ impl CountGame for TentsPuzzle {
 
     ghost told = { tent_house };
 
+    ghost all_short = { λ needs. needs.scope ≤ 64 };
+
     ghost serves = { HasPairingRoom };
 
     fn copied(&self, alloc: Global) -> Result<TentsPuzzle, AllocError> {
@@ -68,8 +70,8 @@ impl CountGame for TentsPuzzle {
         }
     }
 
-    fn cells(&self) -> usize {
-        self.size().cells()
+    fn size(&self) -> Size {
+        TentsPuzzle::size(self)
     }
 
     /// A tree, and a cell with no tree beside it, can have no tent.
@@ -87,18 +89,14 @@ impl CountGame for TentsPuzzle {
     fn accepts(&self, scratch: &mut PairingScratch, grid: &Grid) -> bool {
         find_fault(self, grid, scratch).is_none()
     }
+
+    ghost cells_are = { λ _. refl };
 }
 
 impl PlaneGame for TentsPuzzle {
     type Short = TentNotes<u64>;
 
     type Long = TentNotes<u128>;
-
-    ghost all_short = { λ needs. needs.scope ≤ 64 };
-
-    fn size(&self) -> Size {
-        TentsPuzzle::size(self)
-    }
 
     fn are_short(&self, made: Needs) -> bool {
         made.scope <= 64
@@ -112,6 +110,4 @@ impl PlaneGame for TentsPuzzle {
     ) -> bool {
         are_paired(self, grid, scratch)
     }
-
-    ghost cells_are = { λ _. refl };
 }

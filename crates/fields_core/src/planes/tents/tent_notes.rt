@@ -5,7 +5,7 @@ ghost use Rattle.fields_core.specs.Common.{AreRowsOf, IsTents, has, tent_rules, 
 
 use crate::count::game::CountGame;
 use crate::count::rules::CountRules;
-use crate::planes::game::SweepNotes;
+use crate::planes::game::{SweepNotes, close};
 use crate::planes::tents::three_rows::ThreeRows;
 use crate::planes::tents::trees::cells_of_row;
 use crate::planes::tents::waits::{Kind, Waits};
@@ -78,7 +78,7 @@ impl<W: Word> PlaneNotes<W, CountRules<TentsPuzzle>> for TentNotes<W> {
         _scratch: &mut PairingScratch,
         from: Option<usize>,
     ) -> Taken {
-        SweepNotes::close(self, planes, rules.puzzle(), from)
+        close(self, planes, rules.puzzle(), from)
     }
 
     ghost fits_smaller = { λ _ _ _ _ room. room };
