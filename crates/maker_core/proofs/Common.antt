@@ -69,7 +69,7 @@ pub use Rattle.engine_core.specs.Stored.{IsAnswer}
 pub use Rattle.engine_core.specs.Verdict.{HasTwo, IsTrueOf, Outcome, Outcome.GaveUp, Outcome.NoSolution, Outcome.OneSolution, Outcome.SeveralSolutions}
 pub use Rattle.engine_core.specs.Verdict.{Solves, verdict_of}
 unfoldable pub use Rattle.engine_core.specs.Verdict.{outcome}
-pub use Rattle.engine_core.specs.Walk.{Mark.Found}
+pub use Rattle.engine_core.specs.Walk.{Mark, Mark.Found}
 unfoldable pub use Rattle.engine_core.specs.Walk.{walk}
 pub use Rattle.engine_core.specs.declared.search.walk.Verdict.{Verdict}
 pub use Rattle.pattern_core.specs.LineLaws.{cell_in_grid, different_places, has_runs-is, is_solution-from, is_solution-is, line_rules-lawful}

@@ -106,8 +106,8 @@ module _ (p : Solo) (c_low : 0 < p.c) (r_low : 0 < p.r) (across down : Bool) whe
   turned : p.r * p.c ≡ solo_n p
   turned = omega arith
 
-  some : 0 < solo_n p
-  some = mul-pos c_low r_low
+  some_numbers : 0 < solo_n p
+  some_numbers = mul-pos c_low r_low
 
   module _ {place : ℕ} (within : place < solo_cells p) where
     row : row_of p (from place) ≡ line_from down (solo_n p) (row_of p place)
@@ -117,10 +117,10 @@ module _ (p : Solo) (c_low : 0 < p.c) (r_low : 0 < p.r) (across down : Bool) whe
     column = from_column (solo_n p) across down place within
 
     row_below : row_of p place < solo_n p
-    row_below = div_below place (solo_n p) (solo_n p) some within
+    row_below = div_below place (solo_n p) (solo_n p) some_numbers within
 
     column_below : column_of p place < solo_n p
-    column_below = mod_below place (solo_n p) some
+    column_below = mod_below place (solo_n p) some_numbers
 
     in_diagonal : {d : ℕ} → d < 2 → lies_in p (Diagonal d) place ≡ true → lies_in p (Diagonal (diagonal_from across down d)) (from place) ≡ true
     in_diagonal few on = eq-eqb _ _

@@ -1,9 +1,12 @@
 -- What fewer numbers change: houses that are left out, and the rest.
-use Rattle.maker_core.specs.Below.{Black, Extent, Light, LightCell, Numbered, Solves, White, all_below-at, all_below-from, begins_column_run, begins_row_run, beside, black_right, bulb_right, cases_eq, cases_lt, column_house, column_run, common_steps, filter, get_or-append-add, get_or-set_other, get_or-set_same, get_or_append_left, get_or_past, is_white, joined_in_column, joined_in_row, le_refl, length-append, length-map, length-set, light_houses, light_rules, lit_house, lit_right, longest, max-le, number_house, number_is, number_right, numbered, row_house, row_run, seen_from, sees, sees_bulb, slice_index_or, slice_set, solves_lights, white}
-use Rattle.std.proofs.Common.{List, Some, [], ap, arith, false, get_or, inl, inr, length, map, refl, set, subst, suc, sym, true, zero, ℕ, ◌++◌, ◌<◌, ◌∙◌, ◌≡◌, ◌≢◌, ◌≤◌, ◌⊎◌}
+use Rattle.maker_core.specs.Below.{Black, Extent, Light, LightCell, Numbered, Solves, White, all_below-at, all_below-from, begins_column_run, begins_row_run, beside, black_right, bulb_right, cases_eq, cases_lt, column_house, column_run, common_steps, filter, get_or-set_other, get_or-set_same, get_or_past, is_white, joined_in_column, joined_in_row, le_refl, length-append, length-map, length-set, light_houses, light_rules, lit_house, lit_right, longest, max-le, number_house, number_is, number_right, numbered, row_house, row_run, seen_from, sees, sees_bulb, slice_index_or, slice_set, solves_lights, white}
+use Rattle.std.proofs.Common.{List, Some, [], ap, arith, false, get_or, inl, inr, length, map, refl, set, subst, suc, sym, true, zero, ℕ, ◌++◌, ◌<◌, ◌∷◌, ◌∙◌, ◌≡◌, ◌≢◌, ◌≤◌, ◌⊎◌}
 use Rattle.engine_core.proofs.JudgeLemmas.{scope_le-longest}
 use Rattle.fields_core.specs.CountHouse.{CountHouse, count_house_of, houses_below, no_count_house}
-use Rattle.fields_core.proofs.LightHouseLaws.{EachOf, each-append, lit-from, lit-parts}
+use Rattle.fields_core.proofs.HouseLemmas.{all-append, all-at}
+use Rattle.fields_core.proofs.LightHouseLaws.{lit-from, lit-parts}
+use Rattle.std.proofs.lemmas.List.Elements.{All-from_get_or, recursion_from_All}
+use Rattle.std.specs.List.{AllByRecursion}
 use Rattle.std.proofs.Math.Path.{fun_ext}
 use Rattle.std.proofs.Math.ListN.{get_or-map}
 use Rattle.std.proofs.Math.Seq.{map-set_same}
@@ -17,7 +20,7 @@ IsShort m house = length house.places ≤ m
 
 pub record IsFewer (xs ys : List CountHouse) : Type 0 where
   pub fewer : length xs ≤ length ys
-  pub short : (m : ℕ) → EachOf (IsShort m) ys → EachOf (IsShort m) xs
+  pub short : (m : ℕ) → AllByRecursion (IsShort m) ys → AllByRecursion (IsShort m) xs
 
 pub fewer_itself : {xs : List CountHouse} → IsFewer xs xs
 fewer_itself = record { fewer = le_refl _; short = λ m each. each }
@@ -25,16 +28,14 @@ fewer_itself = record { fewer = le_refl _; short = λ m each. each }
 fewer_none : {xs : List CountHouse} → IsFewer [] xs
 fewer_none = grind (arith, common_steps)
 
-front : (P : CountHouse → Type 0) (xs ys : List CountHouse) → EachOf P (xs ++ ys) → EachOf P xs
-front P xs ys each h lt = subst P (get_or_append_left xs ys no_count_house h lt) (each h (omega (arith, lt, length-append xs ys)))
-
-back : (P : CountHouse → Type 0) (xs ys : List CountHouse) → EachOf P (xs ++ ys) → EachOf P ys
-back P xs ys each h lt = subst P (get_or-append-add xs ys h no_count_house) (each _ (omega (arith, lt, length-append xs ys)))
+both : (P : CountHouse → Type 0) (xs ys : List CountHouse) → AllByRecursion P (xs ++ ys) → AllByRecursion P xs × AllByRecursion P ys
+both P [] ys each = (tt, each)
+both P (x ∷ xs) ys (is, each) = let parts = both P xs ys each in ((is, parts.0), parts.1)
 
 pub fewer_append : {xs ys us vs : List CountHouse} → IsFewer xs ys → IsFewer us vs → IsFewer (xs ++ us) (ys ++ vs)
 fewer_append {xs} {ys} {us} {vs} first second = record {
   fewer = omega (arith, first.fewer, second.fewer, length-append xs us, length-append ys vs);
-  short = λ m each. each-append (IsShort m) xs us (first.short m (front (IsShort m) ys vs each)) (second.short m (back (IsShort m) ys vs each));
+  short = λ m each. let parts = both (IsShort m) ys vs each in all-append (IsShort m) xs us (first.short m parts.0) (second.short m parts.1);
 }
 
 fewer_at : {xs ys : List CountHouse} → (xs ≡ ys) ⊎ (xs ≡ []) → IsFewer xs ys
@@ -55,7 +56,9 @@ longest_at_most scope (suc n) each = max-le (longest_at_most scope n (λ h lt. e
 pub longest_of_fewer : {xs ys : List CountHouse} → IsFewer xs ys
     → longest (λ h. (count_house_of xs h).places) (length xs) ≤ longest (λ h. (count_house_of ys h).places) (length ys)
 longest_of_fewer {xs} {ys} less =
-    longest_at_most _ (length xs) (less.short _ (λ h lt. scope_le-longest _ (length ys) h lt))
+    let m = longest (λ h. (count_house_of ys h).places) (length ys) in
+    let all = recursion_from_All (IsShort m) ys (All-from_get_or (IsShort m) ys no_count_house (λ h lt. scope_le-longest _ (length ys) h lt)) in
+    longest_at_most _ (length xs) (λ h lt. all-at (IsShort m) xs (less.short m all) lt)
 
 -- What fewer numbers change.
 with_cells : Extent → List LightCell → Light
