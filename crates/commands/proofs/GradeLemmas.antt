@@ -270,9 +270,9 @@ settled_one {solves} searched settled =
 pub right_as : (A B : List ℕ → Type 0) (grade : Grade) → ((g : List ℕ) → A g ↔ B g) → IsRightGrade A grade → IsRightGrade B grade
 right_as A B (ByRules set) same right = (right.0, (same right.0).0 right.1, λ h solves. right.2 h ((same h).1 solves))
 right_as A B (BySearch trials) same right = (right.0, (same right.0).0 right.1, λ h solves. right.2 h ((same h).1 solves))
-right_as A B NoSolution same right = λ g solves. right g ((same g).1 solves)
-right_as A B SeveralSolutions same right = (right.0, right.1, (same right.0).0 right.2, (same right.1).0 right.3, right.4)
-right_as A B GaveUp same right = tt
+right_as A B Grade.NoSolution same right = λ g solves. right g ((same g).1 solves)
+right_as A B Grade.SeveralSolutions same right = (right.0, right.1, (same right.0).0 right.2, (same right.1).0 right.3, right.4)
+right_as A B Grade.GaveUp same right = tt
 
 -- the grids that rules accept are the solutions, and a grade is right of both
 pub right_by : {p q : RuleSystem} (solves : List ℕ → Type 0) (grade : Grade) → q ≡ p → ((g : List ℕ) → Solves p g ↔ solves g)

@@ -1,4 +1,5 @@
 pub mod Common
+pub mod Ends
 pub mod Runs
 pub mod Answers
 pub mod Texts

@@ -1,21 +1,9 @@
--- What the calls of an end gave and took, and what a run did to its ends.
-use Rattle.std.specs.Prelude.{Bool, List, None, Option, Some, [], false, take, true, ℕ, ◌==◌, ◌≡◌, ◌⊎◌}
+-- What a run did to its ends.
+use Rattle.std.specs.Prelude.{◌≡◌, ◌⊎◌, ℕ, Bool, true, false}
 use Rattle.commands.specs.Answers.{Answer, Leaves, Text}
 use Rattle.commands.specs.declared.ends.Sink as sinks
 use Rattle.commands.specs.declared.ends.Source as sources
 
--- What one call of an end gave or took.
--- the bytes that a fetch into this buffer gave, and those that a put took of these
-abbrev pub handed : Option ℕ → List ℕ → List ℕ
-handed None bytes = []
-handed (Some n) bytes = take n bytes
-
--- the fetch met the end
-abbrev pub is_end : Option ℕ → Bool
-is_end None = false
-is_end (Some n) = n == 0
-
--- What a run did to its ends.
 -- What a run did to its ends: the bytes that it read of the one, those that it wrote to the other,
 -- and that it may leave these.
 pub record Ran {I O : Type 0} (source : sources.Ghosts I) (sink : sinks.Ghosts O)

@@ -1,6 +1,6 @@
 //! Where the input comes from and where the text goes, one system call at a time.
 ghost use Rattle.std.specs.Prelude.{◌≡◌, ◌+◌, ◌<◌, ◌≤◌, ◌++◌, ℕ, Bool, false, not, List, [], length, is_none, IfSome};
-ghost use Rattle.commands.specs.Runs.{handed, is_end};
+ghost use Rattle.commands.specs.Ends.{handed, is_end};
 
 pub mod output;
 pub mod text;

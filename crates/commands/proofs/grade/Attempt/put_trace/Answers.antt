@@ -1,4 +1,5 @@
-use Rattle.commands.proofs.Common.{[], ap, false, not-false, not-true, on_err_weaker, on_ok_weaker, refl, rules, sweeps_text, sym, true, visits_text, ◌∙◌, ◌≡◌}
+use Rattle.commands.proofs.Common.{[], ap, false, not-false, not-true, on_err_weaker, on_ok_weaker, refl, rules, subst, sweeps_text, sym, true, visits_text, ◌∙◌, ◌≡◌}
+use Rattle.engine_core.specs.ClosingList.{IsClosingList}
 use Rattle.engine_core.specs.Mode.{is_queue}
 use Rattle.commands.proofs.BatchLemmas.{on_any_err}
 use Rattle.commands.proofs.GradeLemmas.{is_traced, untraced}
@@ -30,7 +31,7 @@ returns-in-Queue-clause-put g c =
     let mode : (g.R.Rules.system c.args.rules.now).by_queue ≡ true = g.met.R.Rules.mode_is _ ∙ ap is_queue (sym c.MODE.ensures ∙ c.in-Queue.is) in
     on_ok_weaker c.put_visits.result (λ put. record {
       lines = visits_text (g.P.Played.game.visit_name c.args.puzzle.now) c.trace.result.now;
-      trace = is_traced _ _ _ _ (not-false _ c.if-not-self.false) mode (record { visits = c.trace.result.now; closing = search (rules, mode); said = refl });
+      trace = is_traced _ _ _ _ (not-false _ c.if-not-self.false) mode (record { visits = c.trace.result.now; closing = subst (IsClosingList _ _) (sym c.trace.ensures) (c.close.ensures.closing.by_visits mode).1; said = refl });
       put = put;
     }) c.put_visits.ensures.ok
 
@@ -39,6 +40,6 @@ returns-in-Queue-clause-begun g c =
     let mode : (g.R.Rules.system c.args.rules.now).by_queue ≡ true = g.met.R.Rules.mode_is _ ∙ ap is_queue (sym c.MODE.ensures ∙ c.in-Queue.is) in
     on_err_weaker c.put_visits.result (λ begun. record {
       lines = visits_text (g.P.Played.game.visit_name c.args.puzzle.now) c.trace.result.now;
-      trace = is_traced _ _ _ _ (not-false _ c.if-not-self.false) mode (record { visits = c.trace.result.now; closing = search (rules, mode); said = refl });
+      trace = is_traced _ _ _ _ (not-false _ c.if-not-self.false) mode (record { visits = c.trace.result.now; closing = subst (IsClosingList _ _) (sym c.trace.ensures) (c.close.ensures.closing.by_visits mode).1; said = refl });
       begun = begun;
     }) c.put_visits.ensures.err
