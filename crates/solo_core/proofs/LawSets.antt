@@ -6,7 +6,7 @@ use Rattle.solo_core.proofs.CrossingLemmas.{any-more, any-none, cut_by, crossing
 use Rattle.solo_core.proofs.SinglesLemmas.{singles_in_houses}
 use Rattle.solo_core.proofs.PeelLemmas.{lone-counts, counts-none, counts-more, peeled-step, counts-same, peeled-none, peeled-more, rest-peeled, settled-peeled}
 use Rattle.solo_core.proofs.MateLemmas.{goes_on_free, begun-none, goes_on_swapped}
-use Rattle.solo_core.proofs.WayLemmas.{over_none, over_next, over_all}
+use Rattle.solo_core.proofs.WayLemmas.{over_none, over_next}
 use Rattle.solo_core.proofs.Marks.{bits_joined, single_bit}
 use Rattle.solo_core.proofs.Turned.{after-root, before-root, all_inside, after-step, before-step}
 
@@ -46,7 +46,7 @@ pub ruleset peel_laws =
 
 pub ruleset quick_laws = (both-bits, goes_on_free, begun-none, goes_on_swapped)
 
-pub ruleset reach_laws = (over_none, over_next, over_all)
+pub ruleset reach_laws = (over_none, over_next)
 
 pub ruleset scopes_laws = (column_in, first-at, second-at, scopes-length, row_in, house-named, crossing-after, all-length)
 
