@@ -226,34 +226,27 @@ module _ (size : Extent) where
   AreClues-push line [] clue h p = grind arith
   AreClues-push line (c ∷ clues) clue h p = grind (arith, nat_tests, AreClues-push (line + 1) clues clue h.1)
 
-  lawful : (at : ℕ) (clues : List (List ℕ)) (clue : List ℕ) (ws : List (List ℕ))
-      (all : List (List ℕ)) → AreClues size 0 clues → IsClue (line_cells size (length clues)) clue
-      → read_words at (so_far clues clue) ws ≡ Ok all
-      → AreClues size 0 all × (length all ≡ lines_of size)
+  read_all : (at : ℕ) (clues : List (List ℕ)) (clue : List ℕ) (ws : List (List ℕ)) (all : List (List ℕ)) → AreClues size 0 clues
+      → IsClue (line_cells size (length clues)) clue → AllByRecursion IsWord ws → read_words at (so_far clues clue) ws ≡ Ok all
+      → AreClues size 0 all × (length all ≡ lines_of size) × Spelled clues clue (concat ws) all
   unfolding reading
-  lawful at clues clue [] all h p e = grind (arith, common_steps, AreClues-push)
-  lawful at clues clue (word ∷ ws) all h p e =
+  read_all at clues clue [] all h p w e =
+      let fits : AreClues size 0 all × (length all ≡ lines_of size) = grind (arith, common_steps, AreClues-push) in
+      let spelled : Spelled clues clue [] all = grind (arith, tail_none clue, append-nil clue) in (fits.0, fits.1, spelled)
+  read_all at clues clue (word ∷ ws) all h p w e =
       let b = bind_ok (pattern_step size at (so_far clues clue) word) (λ t. read_words (at + length word) t ws) all e in
       elim (step_cases at clues clue word b.0 b.1) [
-        | inl s ↦ lawful (at + length word) (clues ++ clue ∷ []) [] ws all (AreClues-push 0 clues clue h (grind arith)) IsClue-none (grind arith)
-        | inr n ↦ lawful (at + length word) clues (clue ++ n.number ∷ []) ws all h (IsClue-push p (grind (arith, token_small, n.token))) (grind arith)
+        | inl s ↦
+            let r = read_all (at + length word) (clues ++ clue ∷ []) [] ws all (AreClues-push 0 clues clue h (grind arith)) IsClue-none w.1 (grind arith) in
+            (r.0, r.1, slash_spelled clue (slash_word w.0 s.slash) r.2)
+        | inr n ↦
+            let r = read_all (at + length word) clues (clue ++ n.number ∷ []) ws all h (IsClue-push p (grind (arith, token_small, n.token))) w.1 (grind arith) in
+            (r.0, r.1, number_spelled _ _ at clues clue word (concat ws) all n.number w.0 n.token r.2)
       ]
 
   pub clues_lawful : (at : ℕ) (description : List ℕ) (all : List (List ℕ)) → IsExtent size
       → clues_at size at description ≡ Ok all → IsPattern (record { size = size; clues = all })
-  clues_lawful at description all h e = grind (arith, lawful at [] [] (words description) all tt)
-
-  read_spelled : (at : ℕ) (clues : List (List ℕ)) (clue : List ℕ) (ws : List (List ℕ)) (all : List (List ℕ)) → AllByRecursion IsWord ws
-      → read_words at (so_far clues clue) ws ≡ Ok all → Spelled clues clue (concat ws) all
-  unfolding reading
-  read_spelled at clues clue [] all w e = grind (arith, tail_none clue, append-nil clue)
-  read_spelled at clues clue (word ∷ ws) all w e =
-      let b = bind_ok (pattern_step size at (so_far clues clue) word) (λ t. read_words (at + length word) t ws) all e in
-      elim (step_cases at clues clue word b.0 b.1) [
-        | inl s ↦ slash_spelled clue (slash_word w.0 s.slash) (read_spelled (at + length word) (clues ++ clue ∷ []) [] ws all w.1 (grind arith))
-        | inr n ↦ number_spelled _ _ at clues clue word (concat ws) all n.number w.0 n.token
-            (read_spelled (at + length word) clues (clue ++ n.number ∷ []) ws all w.1 (grind arith))
-      ]
+  clues_lawful at description all h e = grind (arith, read_all at [] [] (words description) all tt IsClue-none (words_are description) e)
 
   abbrev Reads : List (List ℕ) → List (List ℕ) → List ℕ → List ℕ → Type 0
   Reads all clues clue text = (at : ℕ) → read_words at (so_far clues clue) (words text) ≡ Ok all
@@ -329,7 +322,7 @@ module _ (size : Extent) where
 
   pub clues_take : (at : ℕ) (description : List ℕ) (all : List (List ℕ)) → clues_at size at description ≡ Ok all → CluesSpelled description all
   clues_take at description all e =
-      let s = read_spelled at [] [] (words description) all (words_are description) e in
+      let s = (read_all at [] [] (words description) all tt IsClue-none (words_are description) e).2 in
       record {
         numerals = s.ns ∷ s.later;
         parts = grind (arith, concat_words description, s.is.parts, clues_text_is s.ns s.later);

@@ -1,5 +1,6 @@
 -- Printed grids are read back: cell by cell, row by row.
 use Rattle.gameid_core.specs.Common.{AgreeUpTo, Bool, Extent, FitUpTo, Follows, IsAsShown, IsLight, IsLightCell, IsPrinted, IsReadOf, Light, LightCell, List, None, Option, Some, White, [], add-one, ap, append_assoc, ap₂, arith, codes, common_steps, decimal_digit, drop, each_below, ext_get_or, false, get_or, get_or_default, get_or_past, if◌then◌else◌, length, mod-mul-add, refl, set, slice_get, slice_get-get_or, slice_index, suc, suc-mul, sym, take, true, zero, ℕ, ◌*◌, ◌++◌, ◌+◌, ◌-◌, ◌<◌, ◌==◌, ◌∙◌, ◌∷◌, ◌≡◌, ◌≢◌, ◌≤◌, ◌⊎◌}
+use Rattle.std.proofs.Common.{◌↔◌}
 use Rattle.gameid_core.specs.LightText.{light_symbol}
 use Rattle.gameid_core.proofs.LineLaws.{all_at}
 
@@ -174,32 +175,21 @@ begins_with_form text ended printed is form = grind (arith, common_steps)
 
 pub either_form : {front ended bytes printed text : List ℕ} (n : ℕ) → front ≡ text ++ codes "\n"
     → ended ≡ text ++ codes "\n" → n ≡ length text → bytes ≡ printed
-    → (take n front ≡ bytes) ⊎ (ended ≡ bytes) → IsPrinted text printed
-either_form n is same all form one = grind (arith, common_steps)
-
-pub form_either : {front ended bytes printed text : List ℕ} (n : ℕ) → front ≡ text ++ codes "\n"
-    → ended ≡ text ++ codes "\n" → n ≡ length text → bytes ≡ printed
-    → IsPrinted text printed → (take n front ≡ bytes) ⊎ (ended ≡ bytes)
-form_either n is same all form one = grind (arith, common_steps)
+    → ((take n front ≡ bytes) ⊎ (ended ≡ bytes)) ↔ IsPrinted text printed
+either_form n is same all form = (λ one. grind (arith, common_steps), λ one. grind (arith, common_steps))
 
 -- What was read of the text with a line end after it is what the text is the printed form of.
-module _ {hides : ℕ → Type 0} {values : ℕ} {size : Extent} (printed : List ℕ → List ℕ) (text : List ℕ) {ended : List ℕ} {field : Option (List ℕ)} where
-  pub none_read : ended ≡ text ++ codes "\n" → field ≡ None
-      → ((g : List ℕ) (more : List ℕ) → IsAsShown hides values size g → ended ≡ printed g ++ more → field ≡ Some g)
-      → IsReadOf hides values size (λ g. IsPrinted text (printed g)) None
-  none_read is none reads g shown form = let more = begins_with_form text ended (printed g) is form in absurd (cc (reads g more.0 shown more.1, none))
+module _ {hides : ℕ → Type 0} {values : ℕ} {size : Extent} (printed : List ℕ → List ℕ) (text : List ℕ) {ended : List ℕ} {field : Option (List ℕ)}
+    (is : ended ≡ text ++ codes "\n") (reads : (g : List ℕ) (more : List ℕ) → IsAsShown hides values size g → ended ≡ printed g ++ more → field ≡ Some g) where
+  pub none_read : field ≡ None → IsReadOf hides values size (λ g. IsPrinted text (printed g)) None
+  none_read none g shown form = let more = begins_with_form text ended (printed g) is form in absurd (cc (reads g more.0 shown more.1, none))
 
-  only_read : {found : List ℕ} → ended ≡ text ++ codes "\n" → field ≡ Some found
-      → ((g : List ℕ) (more : List ℕ) → IsAsShown hides values size g → ended ≡ printed g ++ more → field ≡ Some g)
-      → (g : List ℕ) → IsAsShown hides values size g → IsPrinted text (printed g) → found ≡ g
-  only_read is some reads g shown form = let more = begins_with_form text ended (printed g) is form in cc (reads g more.0 shown more.1, some)
+  only_read : {found : List ℕ} → field ≡ Some found → (g : List ℕ) → IsAsShown hides values size g → IsPrinted text (printed g) → found ≡ g
+  only_read some g shown form = let more = begins_with_form text ended (printed g) is form in cc (reads g more.0 shown more.1, some)
 
-  pub one_read : {found : List ℕ} → ended ≡ text ++ codes "\n" → field ≡ Some found → IsAsShown hides values size found
-      → ((g : List ℕ) (more : List ℕ) → IsAsShown hides values size g → ended ≡ printed g ++ more → field ≡ Some g)
-      → IsPrinted text (printed found) → IsReadOf hides values size (λ g. IsPrinted text (printed g)) (Some found)
-  one_read is some shown reads form = (shown, form, only_read is some reads)
+  pub one_read : {found : List ℕ} → field ≡ Some found → IsAsShown hides values size found → IsPrinted text (printed found)
+      → IsReadOf hides values size (λ g. IsPrinted text (printed g)) (Some found)
+  one_read some shown form = (shown, form, only_read some)
 
-  pub other_read : {found : List ℕ} → ended ≡ text ++ codes "\n" → field ≡ Some found
-      → ((g : List ℕ) (more : List ℕ) → IsAsShown hides values size g → ended ≡ printed g ++ more → field ≡ Some g)
-      → (IsPrinted text (printed found) → ⊥) → IsReadOf hides values size (λ g. IsPrinted text (printed g)) None
-  other_read is some reads other g shown form = grind (arith, common_steps, only_read)
+  pub other_read : {found : List ℕ} → field ≡ Some found → (IsPrinted text (printed found) → ⊥) → IsReadOf hides values size (λ g. IsPrinted text (printed g)) None
+  other_read some other g shown form = grind (arith, common_steps, only_read)

@@ -195,20 +195,25 @@ module _ (size : Extent) where
   sound_planted {places} blanks true s early room = grind (arith, common_steps, run_bits blanks true, append_assoc places (replicate blanks 0) (1 ∷ []))
   sound_planted blanks false s early room = grind (arith, common_steps, run_bits blanks false)
 
-  sound_read : (at : ℕ) (places counts : List ℕ) (ws : List (List ℕ)) (all : TentsSoFar)
+  sound_none : Sound [] []
+  sound_none = record { bits = tt; full = λ lt. absurd (omega arith); few = omega arith; tree = λ e. absurd (omega arith); fit = tt }
+
+  read_all : (at : ℕ) {places counts : List ℕ} (ws : List (List ℕ)) {all : TentsSoFar} → AllByRecursion IsWord ws
       → Sound places counts → read_words at (at_tents places counts) ws ≡ Ok all
-      → Sound all.cells all.counts × (length all.counts ≡ lines_of size)
+      → Sound all.cells all.counts × (length all.counts ≡ lines_of size) × Spelled places counts (concat ws) all
   unfolding reading
-  sound_read at places counts [] all s e = grind arith
-  sound_read at places counts (word ∷ ws) all s e =
+  read_all at {places} {counts} [] {all} w s e =
+      let sound : Sound all.cells all.counts × (length all.counts ≡ lines_of size) = grind arith in
+      (sound.0, sound.1, record { tokens = []; numerals = []; is = grind (arith, append-nil places, append-nil counts) })
+  read_all at {places} {counts} (word ∷ ws) {all} w s e =
       let b = bind_ok (tents_step size at (at_tents places counts) word) (λ t. read_words (at + length word) t ws) all e in
       elim (step_cases at places counts word b.0 b.1) [
-        | inl c ↦ sound_read (at + length word) places (counts ++ value (drop 1 word) ∷ []) ws all
-            (sound_counted _ s c.full c.fits)
-            (ap (λ t. read_words (at + length word) t ws) c.leads ∙ b.2)
-        | inr p ↦ sound_read (at + length word) (places ++ run_cells p.run.0 p.run.1) counts ws all
-            (sound_planted p.run.0 p.run.1 s p.early p.room)
-            (ap (λ t. read_words (at + length word) t ws) p.leads ∙ b.2)
+        | inl c ↦
+            let r = read_all (at + length word) ws w.1 (sound_counted _ s c.full c.fits) (ap (λ t. read_words (at + length word) t ws) c.leads ∙ b.2) in
+            (r.0, r.1, spelled_counted word (comma_word w.0 c.comma c.some) r.2)
+        | inr p ↦
+            let r = read_all (at + length word) ws w.1 (sound_planted p.run.0 p.run.1 s p.early p.room) (ap (λ t. read_words (at + length word) t ws) p.leads ∙ b.2) in
+            (r.0, r.1, spelled_planted at places counts word (concat ws) p.run all w.0 p.early p.read r.2)
       ]
 
   -- the cells without the tree after them
@@ -223,7 +228,7 @@ module _ (size : Extent) where
     pub range : AreCounts size 0 s.counts
 
   pub tents_read : (at : ℕ) (description : List ℕ) (s : TentsSoFar) → IsWide size → tents_at size at description ≡ Ok s → TentsRead s
-  tents_read at description s wide e = grind (arith, common_steps, sound_read at [] [] (words description) s)
+  tents_read at description s wide e = grind (arith, common_steps, read_all at (words description) {all = s} (words_are description) sound_none e)
 
   pub tents_lawful : (at : ℕ) (description : List ℕ) (s : TentsSoFar) → IsWide size
       → tents_at size at description ≡ Ok s
@@ -241,22 +246,6 @@ module _ (size : Extent) where
       → tents_tree size at (at_tents places []) b ≡ Err f → reads at places [] (b ∷ after) ≡ Err f
   unfolding reading tents_tree
   tree_refused at b places after f other e = grind (arith, common_steps, nat_tests, cuts_some b after)
-
-  read_spelled : (at : ℕ) {places counts : List ℕ} (ws : List (List ℕ)) {all : TentsSoFar}
-      → AllByRecursion IsWord ws → read_words at (at_tents places counts) ws ≡ Ok all
-      → Spelled places counts (concat ws) all
-  unfolding reading
-  read_spelled at {places} {counts} [] w e = record { tokens = []; numerals = []; is = grind (arith, append-nil places, append-nil counts) }
-  read_spelled at {places} {counts} (word ∷ ws) {all} w e =
-      let b = bind_ok (tents_step size at (at_tents places counts) word) (λ t. read_words (at + length word) t ws) all e in
-      elim (step_cases at places counts word b.0 b.1) [
-        | inl c ↦ spelled_counted word (comma_word w.0 c.comma c.some)
-            (read_spelled (at + length word) ws w.1
-            (ap (λ t. read_words (at + length word) t ws) c.leads ∙ b.2))
-        | inr p ↦ spelled_planted at places counts word (concat ws) p.run all w.0 p.early p.read
-            (read_spelled (at + length word) ws w.1
-            (ap (λ t. read_words (at + length word) t ws) p.leads ∙ b.2))
-      ]
 
   -- ---- what is spelled is read
 
@@ -344,7 +333,7 @@ tents_takes text p e =
     let wide = wide_of r.head.size.w r.head.size.h r.is_head.range in
     grind (
       arith,
-      read_spelled _ _ {places = []} {counts = []} _ (words_are (drop r.head.description text)) r.read,
+      (read_all _ _ (words (drop r.head.description text)) (words_are (drop r.head.description text)) (sound_none _) r.read).2,
       concat_words (drop r.head.description text),
       tents_read _ _ _ _ wide r.read,
       tents_lawful _ _ _ _ wide r.read,

@@ -11,7 +11,7 @@ use Rattle.gameid_core.specs.FirstFailed.{IsFirstFailed}
 use Rattle.gameid_core.specs.Words.{begins, is_lead, value}
 use Rattle.gameid_core.specs.Head.{Sides, in_range, max_id}
 
--- Of a text ---------------------------------------------------------------------------------------
+-- ---- Of a text
 
 -- the byte stands nowhere in the text
 abbrev pub Lacks : ℕ → List ℕ → Type 0
@@ -57,7 +57,7 @@ pub record HasTwoSides (game : Game) (text : List ℕ) (size : Sides) : Type 0 w
 abbrev pub HasSize : Game → List ℕ → Sides → Type 0
 HasSize game text size = HasOneSide text size ⊎ HasTwoSides game text size
 
--- The tests ---------------------------------------------------------------------------------------
+-- ---- The tests
 
 -- what fails a text that is to be a size alone: it begins with none, goes on behind it, or is
 -- outside the limits
@@ -77,7 +77,7 @@ FailsHead game text NoColon = Lacks 58 text
 FailsHead game text fault =
     (front rest : List ℕ) × Comes 58 text front rest × FailsSize game front fault
 
--- Their order -------------------------------------------------------------------------------------
+-- ---- Their order
 
 abbrev pub size_tests : List IdFault
 size_tests = BadSize ∷ Variant ∷ SizeRange ∷ []

@@ -12,7 +12,7 @@ use Rattle.gameid_core.specs.Head.{HeadRead, extent_of, max_id}
 use Rattle.gameid_core.specs.IdTexts.{IsSizeText, puzzle_of, size_text}
 use Rattle.gameid_core.specs.Puzzles.{Light, IsLight}
 
--- What a text spells ------------------------------------------------------------------------------
+-- ---- What a text spells
 
 pub data LightToken : Type 0 where
   whites : ℕ → LightToken
@@ -45,7 +45,7 @@ pub record SpellsLight (text : List ℕ) (p : Light) : Type 0 where
   pub each : AllByRecursion IsLightToken tokens
   pub cells : flat_map light_token_cells tokens ≡ p.cells
 
--- Which text is written ---------------------------------------------------------------------------
+-- ---- Which text is written
 
 -- a letter directly before a letter is 'z'
 abbrev pub AreFullLights : List LightToken → Type 0
@@ -59,7 +59,7 @@ pub record IsWrittenLight (text : List ℕ) (p : Light) : Type 0 where
   pub both : spells.front ≡ size_text p.size.w p.size.h
   pub full : AreFullLights spells.tokens
 
--- The first fault ---------------------------------------------------------------------------------
+-- ---- The first fault
 
 -- the cells of a token, which is one byte, or its fault
 unfoldable pub light_token : ℕ → List ℕ → Result (List LightCell) IdFault
@@ -84,7 +84,7 @@ light_behind head description = do
 abbrev pub light_of : List ℕ → Result Light IdFault
 light_of text = puzzle_of game.LightUp light_behind text
 
--- The written text --------------------------------------------------------------------------------
+-- ---- The written text
 
 -- a letter for so many white cells before other tokens, and none for no cell
 abbrev pub whites_before : ℕ → List LightToken → List LightToken
@@ -105,7 +105,7 @@ light_cells_text k cells = map light_token_byte (light_tokens k cells)
 abbrev pub light_text : Light → List ℕ
 light_text p = size_text p.size.w p.size.h ++ 58 ∷ light_cells_text 0 p.cells
 
--- Printed grids ---------------------------------------------------------------------------------
+-- ---- Printed grids
 
 -- Light Up: 'O' a bulb, '.' a white cell without one, '#' a black cell without a number, its number
 -- else
@@ -122,7 +122,7 @@ light_cell p g place = light_symbol (slice_get p.cells place) (slice_index g pla
 abbrev pub light_hides : Light → ℕ → Type 0
 light_hides p place = slice_get p.cells place ≢ Some White
 
--- Words of the writer's functions -----------------------------------------------------------------
+-- ---- Words of the writer's functions
 
 -- the byte that a black cell is written with
 abbrev pub IsBlackByte : ℕ → LightCell → Type 0

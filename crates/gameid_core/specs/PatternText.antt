@@ -14,7 +14,7 @@ use Rattle.gameid_core.specs.IdTexts.{IsSizeText, puzzle_of, size_text}
 use Rattle.grid_core.specs.Lines.{line_cells, lines_of}
 use Rattle.gameid_core.specs.Puzzles.{Pattern, IsPattern, pattern_puzzle, used}
 
--- What a text spells ------------------------------------------------------------------------------
+-- ---- What a text spells
 
 -- clues joined by '/', each empty or numbers joined by '.'
 abbrev pub clues_text : List (List (List ℕ)) → List ℕ
@@ -30,7 +30,7 @@ pub record SpellsPattern (text : List ℕ) (p : Pattern) : Type 0 where
   pub digits : AllByRecursion (AllByRecursion IsNumeral) numerals
   pub clues : map (map value) numerals ≡ p.clues
 
--- Which text is written ---------------------------------------------------------------------------
+-- ---- Which text is written
 
 -- the text spells the puzzle, with both numbers of the size and no leading zero
 pub record IsWrittenPattern (text : List ℕ) (p : Pattern) : Type 0 where
@@ -38,7 +38,7 @@ pub record IsWrittenPattern (text : List ℕ) (p : Pattern) : Type 0 where
   pub both : spells.front ≡ size_text p.size.w p.size.h
   pub plain : AllByRecursion (AllByRecursion IsPlain) spells.numerals
 
--- The first fault ---------------------------------------------------------------------------------
+-- ---- The first fault
 
 -- what was read so far: the clues before this one, and the numbers of this one
 pub record SoFar : Type 0 where
@@ -104,7 +104,7 @@ pattern_behind head description = do
 abbrev pub pattern_of : List ℕ → Result Pattern IdFault
 pattern_of text = puzzle_of game.Pattern pattern_behind text
 
--- The written text --------------------------------------------------------------------------------
+-- ---- The written text
 
 abbrev pub clue_text : List ℕ → List ℕ
 clue_text clue = join_with_byte 46 (map decimal clue)
@@ -112,13 +112,13 @@ clue_text clue = join_with_byte 46 (map decimal clue)
 abbrev pub pattern_text : Pattern → List ℕ
 pattern_text p = size_text p.size.w p.size.h ++ 58 ∷ join_with_byte 47 (map clue_text p.clues)
 
--- Printed grids ---------------------------------------------------------------------------------
+-- ---- Printed grids
 
 -- Pattern: '#' black, '.' white
 abbrev pub pattern_cell : Pattern → List ℕ → ℕ → List ℕ
 pattern_cell p g place = if slice_index g place == 1 then codes "#" else codes "."
 
--- Words of the reader's functions -----------------------------------------------------------------
+-- ---- Words of the reader's functions
 
 -- the number, and the text after it; or the fault
 abbrev pub GivesNumber : Result ℕ IdFault → List ℕ → Result (ℕ × Bor (List ℕ)) IdFault → Type 0

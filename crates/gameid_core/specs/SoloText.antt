@@ -12,7 +12,7 @@ use Rattle.gameid_core.specs.Head.{HeadRead, max_id}
 use Rattle.gameid_core.specs.IdTexts.{IsSoloSizeText, puzzle_of, solo_size_text}
 use Rattle.gameid_core.specs.Puzzles.{Solo, IsSolo, solo_n, solo_puzzle}
 
--- What a text spells ------------------------------------------------------------------------------
+-- ---- What a text spells
 
 pub data SoloToken : Type 0 where
   blanks : ℕ → SoloToken
@@ -52,7 +52,7 @@ pub record SpellsSolo (text : List ℕ) (p : Solo) : Type 0 where
   pub apart : AreApart tokens
   pub cells : flat_map solo_token_cells tokens ≡ p.givens
 
--- Which text is written ---------------------------------------------------------------------------
+-- ---- Which text is written
 
 -- a letter directly before a letter is 'z'
 abbrev pub AreFull : List SoloToken → Type 0
@@ -80,7 +80,7 @@ pub record IsWrittenSolo (text : List ℕ) (p : Solo) : Type 0 where
   pub full : AreFull spells.tokens
   pub needed : AreNeeded false spells.tokens
 
--- The first fault ---------------------------------------------------------------------------------
+-- ---- The first fault
 
 -- the cells of a token, or its fault, by its first byte
 unfoldable pub solo_token : ℕ → ℕ → List ℕ → Result (List ℕ) IdFault
@@ -113,7 +113,7 @@ solo_behind head description = do
 abbrev pub solo_of : List ℕ → Result Solo IdFault
 solo_of text = puzzle_of game.Solo solo_behind text
 
--- The written text --------------------------------------------------------------------------------
+-- ---- The written text
 
 -- a letter for so many blank cells before other tokens, and none for no cell
 abbrev pub blanks_before : ℕ → List SoloToken → List SoloToken
@@ -145,7 +145,7 @@ AddsGap k touches old new = (tokens : List SoloToken)
     → string_bytes new ++ flat_map solo_token_text tokens
     ≡ string_bytes old ++ flat_map solo_token_text (gap_before k touches tokens)
 
--- Printed grids ---------------------------------------------------------------------------------
+-- ---- Printed grids
 
 -- where the text is a number below 100 with no digit after it: the number, and how many digits it has
 abbrev pub ReadsNumber : List ℕ → ℕ × ℕ → Type 0

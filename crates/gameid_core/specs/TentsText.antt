@@ -12,7 +12,7 @@ use Rattle.gameid_core.specs.IdTexts.{IsSizeText, puzzle_of, size_text}
 use Rattle.grid_core.specs.Lines.{line_cells, lines_of}
 use Rattle.gameid_core.specs.Puzzles.{Tents, IsTents, tents_puzzle}
 
--- What a text spells ------------------------------------------------------------------------------
+-- ---- What a text spells
 
 pub data TentsToken : Type 0 where
   blanks_and_tree : ℕ → TentsToken
@@ -47,7 +47,7 @@ pub record SpellsTents (text : List ℕ) (p : Tents) : Type 0 where
   pub cells : flat_map tents_token_cells tokens ≡ p.trees ++ 1 ∷ []
   pub counts : map value numerals ≡ p.counts
 
--- Which text is written ---------------------------------------------------------------------------
+-- ---- Which text is written
 
 -- no 'z' stands directly before '_'
 abbrev pub AreTight : List TentsToken → Type 0
@@ -62,7 +62,7 @@ pub record IsWrittenTents (text : List ℕ) (p : Tents) : Type 0 where
   pub tight : AreTight spells.tokens
   pub plain : AllByRecursion IsPlain spells.numerals
 
--- The first fault ---------------------------------------------------------------------------------
+-- ---- The first fault
 
 -- what was read so far: the cells, with the tree after them where that is read, and the numbers
 pub record TentsSoFar : Type 0 where
@@ -137,7 +137,7 @@ tents_behind head description = do
 abbrev pub tents_of : List ℕ → Result Tents IdFault
 tents_of text = puzzle_of game.Tents tents_behind text
 
--- The written text --------------------------------------------------------------------------------
+-- ---- The written text
 
 -- the tokens of the cells, with k blanks before them, and of the tree after them
 unfoldable pub tents_tokens : ℕ → List ℕ → List TentsToken
@@ -160,7 +160,7 @@ abbrev pub AddsBlank : {Z : Type 0} → ℕ → ℕ → String Z → String Z �
 AddsBlank blanks k old new = (cells : List ℕ)
     → string_bytes new ++ trees_text k cells ≡ string_bytes old ++ trees_text blanks (0 ∷ cells)
 
--- Printed grids ---------------------------------------------------------------------------------
+-- ---- Printed grids
 
 -- Tents: 'T' a tree, '^' a tent, '.' any other cell
 abbrev pub tents_cell : Tents → List ℕ → ℕ → List ℕ

@@ -1,19 +1,19 @@
 -- Words and lemmas of std and of the crates below, and words of this crate, as its proofs use them.
-pub use Rattle.std.proofs.Common.{Bool, List, None, Option, Some, [], add-one, ap, append-nil, append_assoc, ap₂, arith, bit_and, cond, drop, eqb, false}
+pub use Rattle.std.proofs.Common.{Bool, List, None, Option, Some, [], add-one, ap, append-nil, append_assoc, ap₂, arith, cond, drop, eqb, false}
 pub use Rattle.std.proofs.Common.{get_or, inl, inr, leb, length, ltb, map, not, refl, replicate, set, slice_index, subst, suc, sym, take, true, zero, ℕ, ◌%◌}
-pub use Rattle.std.proofs.Common.{◌&&◌, ◌*◌, ◌++◌, ◌+◌, ◌-◌, ◌/◌, ◌<◌, ◌^◌, ◌||◌, ◌∙◌, ◌∷◌, ◌≡◌, ◌≤◌, ◌⊎◌}
+pub use Rattle.std.proofs.Common.{◌&&◌, ◌*◌, ◌++◌, ◌+◌, ◌-◌, ◌/◌, ◌<◌, ◌||◌, ◌∙◌, ◌∷◌, ◌≡◌, ◌≤◌, ◌⊎◌}
 pub use Rattle.std.proofs.Math.Bool.{and-false, and-or_distrib_right, and-true, and_assoc, or-false, or-true}
 pub use Rattle.std.proofs.Math.Nat.{mod-lt, mul-le-mul_right}
 pub use Rattle.std.proofs.Math.Path.{fun_ext}
-pub use Rattle.std.proofs.lemmas.Bool.{and_from, and_parts, and_right, cases_Bool, cases_eq, cases_lt, eq-eqb, eqb-false, eqb-true, false_from_ne_true}
+pub use Rattle.std.proofs.lemmas.Bool.{and_from, and_parts, and_right, cases_Bool, cases_eq, cases_lt, eq-eqb, eqb-true, false_from_ne_true}
 pub use Rattle.std.proofs.lemmas.Bool.{false≢true, le-leb, le-ltb, lt-leb, lt-ltb, ltb-true, ne_eqb, not-false, not-true, or_cases, or_left, or_parts}
 pub use Rattle.std.proofs.lemmas.Bool.{or_right, true≢false}
 pub use Rattle.std.proofs.lemmas.Grind.{common_steps, elements}
 pub use Rattle.std.proofs.lemmas.List.{drop-drop, drop_all, drop_more, get_or-append_right, get_or-drop, get_or-map, get_or-replicate, get_or-set_other}
 pub use Rattle.std.proofs.lemmas.List.{get_or-set_same, get_or_append_left, get_or_past, length-append, length-drop, length-map, length-replicate, length-set}
-pub use Rattle.std.proofs.lemmas.List.{replicate-append-replicate, set-get_or}
+pub use Rattle.std.proofs.lemmas.List.{replicate-append-replicate}
 pub use Rattle.std.proofs.lemmas.Nat.{div-add-mod', div-mul-add, div_below, mod-mul-add, mod_below}
-pub use Rattle.std.specs.Int.{bit_at, from_bool}
+pub use Rattle.std.specs.Int.{from_bool}
 pub use Rattle.std.specs.List.{AllByRecursion}
 pub use Rattle.grid_core.proofs.BoardLemmas.{all_below-from, any_below-here, any_below-none, any_below-same, any_below-some, count_below-none}
 pub use Rattle.grid_core.proofs.BoardLemmas.{count_below-pos, count_below-same, is_dead-each, is_dead-here, is_dead-not, within_inside}
@@ -21,7 +21,6 @@ pub use Rattle.grid_core.proofs.RegionLemmas.{length-line_numbers, length-line_p
 pub use Rattle.grid_core.proofs.RegionLemmas.{place_in_row}
 pub use Rattle.grid_core.proofs.PlaneLemmas.{further-more, further-none, has-within, place-in}
 pub use Rattle.grid_core.specs.Board.{Layout}
-unfoldable pub use Rattle.grid_core.specs.Board.{has}
 pub use Rattle.grid_core.specs.Candidates.{Candidates, IsWithin}
 unfoldable pub use Rattle.grid_core.specs.Candidates.{all_of, any_below, count_below}
 pub use Rattle.grid_core.specs.Extent.{Extent, IsExtent}
@@ -41,7 +40,7 @@ unfoldable pub use Rattle.engine_core.specs.Filling.{some_filling}
 pub use Rattle.engine_core.specs.FillingLaws.{filling_from_test, test_from_filling, test_from_shown}
 pub use Rattle.engine_core.specs.HouseSets.{Decision, IsDecided}
 unfoldable pub use Rattle.engine_core.specs.HouseSets.{kept_in, sets_at, strikes_at}
-pub use Rattle.engine_core.specs.HouseSetsLaws.{bits-of_values, by_fillings-met, kept-decided, length-sets_at, sets-bits, sets-of_values, sets_at-value}
+pub use Rattle.engine_core.specs.HouseSetsLaws.{bits-of_values, by_fillings-met, kept-decided, length-sets_at, sets-bits, sets_at-value}
 pub use Rattle.engine_core.specs.HouseSetsLaws.{strikes_at-some, visited-after}
 pub use Rattle.engine_core.specs.PlaceLaws.{has_place-at, has_place-here}
 pub use Rattle.engine_core.specs.Position.{IsClosedBut}

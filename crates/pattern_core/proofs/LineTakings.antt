@@ -120,12 +120,16 @@ module _ (pat : Pattern) (p : Layers) (line : Line) (same : p.size ≡ pat.size)
   kept-bit : {k v : ℕ} → k < line_len size line → v < 2 → has_bit (slice_index kept k) v ≡ has_bit (word_of white' black' v) k
   kept-bit {k} {v} = sets-bit white' black' _ k v
 
+  -- whether a cell of the line keeps the value no more, which is the cell's at that place
+  abbrev is_gone : ℕ → ℕ → ℕ → Bool
+  is_gone c v k = eqb (slice_index places k) c && not (has_bit (slice_index kept k) v)
+
   -- what is lost of a value in the line
   struck-at : (v bits c : ℕ) → v < 2 → ((k : ℕ) → has_bit bits k ≡ (at_line p line v k && not (has_bit (word_of white' black' v) k))) → K c v ≡ true
-      → crosses line bits (c / size.w) (c % size.w) ≡ any_below (λ k. eqb (slice_index places k) c && not (has_bit (slice_index kept k) v)) (length places)
-  struck-at v bits c low is on = elim (cases_Bool (any_below (λ k. eqb (slice_index places k) c && not (has_bit (slice_index kept k) v)) (length places))) [
+      → crosses line bits (c / size.w) (c % size.w) ≡ any_below (is_gone c v) (length places)
+  struck-at v bits c low is on = elim (cases_Bool (any_below (is_gone c v) (length places))) [
     | inl one ↦ (
-        let w = any_below-some (λ k. eqb (slice_index places k) c && not (has_bit (slice_index kept k) v)) (length places) one in
+        let w = any_below-some (is_gone c v) (length places) one in
         let u = and_parts _ _ w.2 in let lk : w.0 < line_len size line = omega (arith, long, w.1) in
         let here : cell_of size line w.0 ≡ c = sym (at lk) ∙ eqb-true _ _ u.0 in
         let there : at_line p line v w.0 ≡ true = sym (reads v lk low) ∙ rw (← here) at on in
@@ -134,7 +138,7 @@ module _ (pat : Pattern) (p : Layers) (line : Line) (same : p.size ≡ pat.size)
     | inr none ↦ rw none (false_from_ne_true _ (λ crossed.
         let w = crossed-some size line bits c some (within c v on).0 crossed in let lk = w.1 in
         let u = and_parts (at_line p line v w.0) (not (has_bit (word_of white' black' v) w.0)) (sym (is w.0) ∙ w.2) in
-        let off = any_below-none (λ k. eqb (slice_index places k) c && not (has_bit (slice_index kept k) v)) (length places) none w.0 (omega (arith, long)) in
+        let off = any_below-none (is_gone c v) (length places) none w.0 (omega (arith, long)) in
         true≢false (sym (and_from _ _ (eq-eqb _ _ (at lk ∙ w.3)) (ap not (kept-bit lk low) ∙ u.1)) ∙ off)))
   ]
 
@@ -152,7 +156,7 @@ module _ (pat : Pattern) (p : Layers) (line : Line) (same : p.size ≡ pat.size)
         | inl e ↦ rw e none0
         | inr ne ↦ (let e : v ≡ 1 = omega arith in rw e none1)
       ] in
-      and_right (K c v) _ (ap not (any_below-here (λ j. eqb (slice_index places j) c && not (has_bit (slice_index kept j) v)) (length places) k lk
+      and_right (K c v) _ (ap not (any_below-here (is_gone c v) (length places) k lk
       (and_from _ _ (eq-eqb c c refl) (ap not gone)))) in
       rw (← after-is) (is_dead-here (size.w * size.h) 2 _ c (in_grid size (house-in size line lt) (has_place-here places k lk)) (count_below-none _ 2 off))
 
@@ -179,8 +183,8 @@ module _ (pat : Pattern) (p : Layers) (line : Line) (same : p.size ≡ pat.size)
     stays : (c v : ℕ) → has_place places c ≡ false → left c v ≡ K c v
     unfolding kept_in
     stays c v off =
-        let none = false_from_ne_true (any_below (λ k. eqb (slice_index places k) c && not (has_bit (slice_index kept k) v)) (length places)) (λ on.
-        let w = any_below-some (λ k. eqb (slice_index places k) c && not (has_bit (slice_index kept k) v)) (length places) on in
+        let none = false_from_ne_true (any_below (is_gone c v) (length places)) (λ on.
+        let w = any_below-some (is_gone c v) (length places) on in
         let e = eqb-true (slice_index places w.0) c (and_parts _ _ w.2).0 in
         true≢false (sym (rw e at (has_place-here places w.0 w.1)) ∙ off)) in
         each c v ∙ rw none (and-true (K c v))

@@ -93,9 +93,6 @@ shown-more word next is on at are with_it here = record {
 }
 
 -- ---- what is kept is what is shown
-pub both-ways : {a b c d : Bool} → a ≡ d → b ≡ c → (a && b) ≡ (c && d)
-both-ways {c} {d} e f = grind (arith, common_steps, cases_Bool c, cases_Bool d, e, f)
-
 kept-bits : {x : Bool} (y w : Bool) {s : Bool} → x ≡ (y && w) → (y && w) ≡ s → x ≡ (w && s)
 kept-bits y w e is = grind (arith, common_steps, cases_Bool w, cases_Bool y, e, is)
 

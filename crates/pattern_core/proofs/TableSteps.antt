@@ -1,5 +1,6 @@
 -- The steps of the table at a place of the line, and the line that goes along the spelled clue by the places that its cells reach.
 use Rattle.pattern_core.proofs.Common.{ArePositive, AreRows, AreRowsKept, Bool, IsBelow, IsDecidedBy, List, Track, [], ahead, and-true, and_from, and_parts, any_below, any_below-here, any_below-same, any_below-some, any_cells, ap, arith, cases_Bool, cases_eq, cell_is, common_steps, drop, drop-drop, drop_all, drop_more, eqb, eqb-true, false, false_from_ne_true, fun_ext, get_or, get_or-drop, get_or-map, get_or-set_other, get_or-set_same, goes_on, has_bit, has_runs, inl, inr, leads, led, length, length-map, length-set, or-false, refl, set, set_for, set_of_bits, sets_of, some_filling, some_leads, spelled, stays, suc, sym, track_of, true, true≢false, zero, ℕ, ◌&&◌, ◌+◌, ◌<◌, ◌||◌, ◌∙◌, ◌∷◌, ◌≡◌, ◌≤◌}
+use Rattle.std.proofs.Math.Bool.{and_comm}
 use Rattle.pattern_core.proofs.SpelledRuns.{leads_here, leads_next, leads_runs, same_tests, strikes_by_track, ways_on}
 
 -- a way on from the places that are reached before the cell at `at`, by any test of the cells from there on
@@ -91,7 +92,7 @@ module _ (n : ℕ) (t : Track) (sets : List ℕ) (reached : ℕ → Bool) (at : 
   pulled false way = false_from_ne_true (any_below (λ p. reached p && false) n) (λ on.
       let w = any_below-some (λ p. reached p && false) n on in true≢false (sym (and_parts _ _ w.2).1))
 
-  pub shown_at : (v : ℕ) → v < 2 → some_leads t (sets_of sets) (cell_is at v) 0 ≡ (has_bit (get_or sets at 0) v && leads_by (set_for v))
+  shown_at : (v : ℕ) → v < 2 → some_leads t (sets_of sets) (cell_is at v) 0 ≡ (has_bit (get_or sets at 0) v && leads_by (set_for v))
   unfolding cell_is
   shown_at v small =
       ap (λ h. some_leads t (sets_of sets) h 0)
@@ -102,12 +103,11 @@ module _ (n : ℕ) (t : Track) (sets : List ℕ) (reached : ℕ → Bool) (at : 
       (λ p low. ap (λ x. reached p && x) (way_here t sets at lt v p small ∙ ap (λ f. has_bit (get_or sets at 0) v && ahead t (set_for v) f p) after))
       ∙ pulled (has_bit (get_or sets at 0) v) (λ p. ahead t (set_for v) next p)
 
-  -- whether it leads on where it is white, and where it is black
-  pub leads_white : (white : ℕ → Bool) → IsBelow n t → ((p : ℕ) → p < n → white p ≡ led t 1 reached p) → any_below (λ p. white p && next p) n ≡ leads_by 1
-  leads_white white below is = ways_on 1 n below reached white (ahead t 1 next) next is (λ p. refl)
-
-  pub leads_black : (black : ℕ → Bool) → IsBelow n t → ((p : ℕ) → p < n → black p ≡ led t 2 reached p) → any_below (λ p. black p && next p) n ≡ leads_by 2
-  leads_black black below is = ways_on 2 n below reached black (ahead t 2 next) next is (λ p. refl)
+  -- what a cell that can be v reaches leads on where some filling shows v
+  pub shown_on : (v : ℕ) (ways : ℕ → Bool) {on has : Bool} → v < 2 → IsBelow n t → ((p : ℕ) → p < n → ways p ≡ led t (set_for v) reached p)
+      → on ≡ any_below (λ p. ways p && next p) n → has ≡ has_bit (get_or sets at 0) v → (on && has) ≡ some_leads t (sets_of sets) (cell_is at v) 0
+  shown_on v ways small below is leads has =
+      rw (leads ∙ ways_on (set_for v) n below reached ways (ahead t (set_for v) next) next is (λ p. refl), has) (and_comm (leads_by (set_for v)) (has_bit (get_or sets at 0) v)) ∙ sym (shown_at v small)
 
 -- ---- all cells
 pub decided_by_track : (clue : List ℕ) {sets kept : List ℕ} {t : Track} → t ≡ track_of (spelled clue) → ArePositive clue

@@ -5,7 +5,7 @@ pub use Rattle.std.specs.List.{AllByRecursion, range_with_len}
 unfoldable pub use Rattle.grid_core.specs.Candidates.{all_below, all_of, count_below, sum_below}
 pub use Rattle.grid_core.specs.Extent.{Extent, IsExtent, max_side}
 pub use Rattle.grid_core.specs.Grids.{IsGrid, column_cells, row_cells}
-pub use Rattle.grid_core.specs.Lines.{line_cells, lines_of}
+pub use Rattle.grid_core.specs.Lines.{lines_of}
 unfoldable pub use Rattle.grid_core.specs.Lines.{line_numbers, line_places}
 pub use Rattle.grid_core.specs.Planes.{IsFurther, Layers, lines_beside, number_of}
 unfoldable pub use Rattle.grid_core.specs.Planes.{has}

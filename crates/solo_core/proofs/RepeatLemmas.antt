@@ -76,17 +76,17 @@ module _ (p : Solo) (ok : IsSolo p) (g : List ℕ) where
   none_repeats : (house : NamedHouse) → IsHouseOf p house → no_repeat (numbers_of p g house) ≡ true → Repeats p g house → ⊥
   none_repeats house is holds (j, k, lj, lk, ne, a, b, same) = differ_in (lists_house ok house is) g holds j k lj lk ne a b same
 
+  fault_is : (house : NamedHouse) → FailsSolo p g (fault_of house) ≡ Repeats p g house
+  fault_is (Row y) = refl
+  fault_is (Column i) = refl
+  fault_is (Block b) = refl
+  fault_is (Diagonal d) = refl
+
   fault_fails : (house : NamedHouse) → Repeats p g house → FailsSolo p g (fault_of house)
-  fault_fails (Row y) again = again
-  fault_fails (Column i) again = again
-  fault_fails (Block b) again = again
-  fault_fails (Diagonal d) again = again
+  fault_fails house again = rw fault_is again
 
   fault_holds : (house : NamedHouse) → (Repeats p g house → ⊥) → FailsSolo p g (fault_of house) → ⊥
-  fault_holds (Row y) none fails = none fails
-  fault_holds (Column i) none fails = none fails
-  fault_holds (Block b) none fails = none fails
-  fault_holds (Diagonal d) none fails = none fails
+  fault_holds house none fails = none (rw fault_is at fails)
 
   abbrev Holding : SoloFault → Type 0
   Holding test = Holds (FailsSolo p g) test

@@ -1,5 +1,5 @@
 -- Sets of values as bits, and what a visit reads of those of a house.
-use Rattle.std.specs.Prelude.{◌≡◌, ℕ, ◌<◌, ◌≤◌, ◌&&◌, ◌||◌, Bool, true, List, map, slice_index}
+use Rattle.std.specs.Prelude.{◌≡◌, ℕ, ◌<◌, ◌≤◌, Bool, true, List, map, slice_index}
 use Rattle.engine_core.specs.Filling.{strikes_by_fillings}
 use Rattle.engine_core.specs.Sets.{has_bit, set_of_bits}
 use Rattle.solo_core.specs.Houses.{no_repeat}
@@ -12,11 +12,6 @@ NoneIsSet bits from end = (v : ℕ) → from ≤ v → v < end → has_bit bits 
 abbrev pub IsFirstSet : ℕ → ℕ → ℕ → ℕ → Type 0
 IsFirstSet bits from end v =
     (from ≤ v) × (v < end) × (has_bit bits v ≡ true) × NoneIsSet bits from v
-
--- the bits get those of `more` too, where bit `value` is set
-abbrev pub HasMore : ℕ → ℕ → ℕ → ℕ → Type 0
-HasMore old value more new =
-    (v : ℕ) → has_bit new v ≡ (has_bit old v || (has_bit old value && has_bit more v))
 
 -- whether no filling without repeat has the value in the place
 abbrev pub is_struck : ℕ → List ℕ → ℕ → ℕ → Bool

@@ -136,34 +136,23 @@ each_value P f n each k d lt = grind (arith, common_steps, length-map-range_with
 -- they are the puzzle's, and all of them
 pub all_houses : (p : Solo) → All (IsHouseOf p) (houses_of p)
 all_houses p =
-    All-append (IsHouseOf p) (map Row (range_with_len 0 (solo_n p))) _ (each_value (IsHouseOf p) Row (solo_n p) (λ k lt. lt))
-    (All-append (IsHouseOf p) (map Column (range_with_len 0 (solo_n p))) _ (each_value (IsHouseOf p) Column (solo_n p) (λ k lt. lt))
-    (All-append (IsHouseOf p) (map Block (range_with_len 0 (solo_n p))) (diagonals p.x)
-    (each_value (IsHouseOf p) Block (solo_n p) (λ k lt. lt)) (all_diagonals p.x refl)))
+    All-append (IsHouseOf p) _ _ (each_value (IsHouseOf p) Row (solo_n p) (λ k lt. lt))
+    (All-append (IsHouseOf p) _ _ (each_value (IsHouseOf p) Column (solo_n p) (λ k lt. lt))
+    (All-append (IsHouseOf p) _ _ (each_value (IsHouseOf p) Block (solo_n p) (λ k lt. lt)) (all_diagonals p.x refl)))
   where
-    diagonals : Bool → List NamedHouse
-    diagonals x = if x then Diagonal 0 ∷ Diagonal 1 ∷ [] else []
-
-    all_diagonals : (x : Bool) → p.x ≡ x → All (IsHouseOf p) (diagonals x)
-    all_diagonals true e =
-        All-cons (IsHouseOf p) (Diagonal 0) (Diagonal 1 ∷ []) (omega arith, e)
-        (All-cons (IsHouseOf p) (Diagonal 1) [] (omega arith, e) (All-nil (IsHouseOf p)))
+    all_diagonals : (x : Bool) → p.x ≡ x → All (IsHouseOf p) (if x then Diagonal 0 ∷ Diagonal 1 ∷ [] else [])
+    all_diagonals true e = All-cons (IsHouseOf p) (Diagonal 0) (Diagonal 1 ∷ []) (omega arith, e) (All-cons (IsHouseOf p) (Diagonal 1) [] (omega arith, e) (All-nil (IsHouseOf p)))
     all_diagonals false e = All-nil (IsHouseOf p)
 
 -- what holds of each house of the list holds of each house of the puzzle
 pub each_house : (p : Solo) (P : NamedHouse → Type 0) → All P (houses_of p) → (house : NamedHouse) → IsHouseOf p house → P house
-each_house p P all (Row y) lt = of_value P Row (solo_n p) (of_first P (map Row (range_with_len 0 (solo_n p))) _ all) y lt
-each_house p P all (Column i) lt = of_value P Column (solo_n p)
-    (of_first P (map Column (range_with_len 0 (solo_n p))) _ (of_rest P (map Row (range_with_len 0 (solo_n p))) _ all)) i lt
-each_house p P all (Block b) lt = of_value P Block (solo_n p)
-    (of_first P (map Block (range_with_len 0 (solo_n p))) _
-    (of_rest P (map Column (range_with_len 0 (solo_n p))) _
-    (of_rest P (map Row (range_with_len 0 (solo_n p))) _ all))) b lt
+each_house p P all (Row y) lt = of_value P Row (solo_n p) (of_first P _ _ all) y lt
+each_house p P all (Column i) lt = of_value P Column (solo_n p) (of_first P _ _ (of_rest P _ _ all)) i lt
+each_house p P all (Block b) lt = of_value P Block (solo_n p) (of_first P (map Block (range_with_len 0 (solo_n p))) _
+    (of_rest P (map Column (range_with_len 0 (solo_n p))) _ (of_rest P _ _ all))) b lt
 each_house p P all (Diagonal d) (lt, is) =
-    let last =
-    rw is at (of_rest P (map Block (range_with_len 0 (solo_n p))) _
-    (of_rest P (map Column (range_with_len 0 (solo_n p))) _
-    (of_rest P (map Row (range_with_len 0 (solo_n p))) _ all))) in
+    let last = rw is at (of_rest P (map Block (range_with_len 0 (solo_n p))) _
+    (of_rest P (map Column (range_with_len 0 (solo_n p))) _ (of_rest P (map Row (range_with_len 0 (solo_n p))) _ all))) in
     elim (cases_lt d 1) [
       | inl first ↦ let e : 0 ≡ d = omega arith in rw e at (last 0 (Diagonal 0) (omega arith))
       | inr second ↦ let e : 1 ≡ d = omega arith in rw e at (last 1 (Diagonal 0) (omega arith))

@@ -10,7 +10,7 @@ ghost use Rattle.solo_core.specs.RuleSets.{crossing_decides, crossings_of, AreSh
 use crate::houses::house::NamedHouse;
 use crate::houses::places::{lies, place};
 use crate::houses::scopes::crossing_at;
-use crate::visits::bits::with_bit_if;
+use crate::visits::bits::{with_bit_if, with_more_if};
 use engine_core::has_bit;
 use gameid_core::SoloPuzzle;
 
@@ -88,13 +88,6 @@ fn values_in_line(block: usize, sets: &[u32]) -> u32
         values = with_more_if(values, sets[k], k >= block);
     }
     values
-}
-
-/// The bits with those of `more` too, where `on`.
-fn with_more_if(bits: u32, more: u32, on: bool) -> u32
-    ensures { (v : ℕ) → is_set result v ≡ (is_set bits v || (on && is_set more v)) }
-{
-    if on { bits | more } else { bits }
 }
 
 /// The bits without those that `there` hasn't, where `on`.

@@ -6,7 +6,8 @@ ghost use Rattle.solo_core.specs.Common.{AreDifferent, has_bit as is_set, has_in
 ghost use Rattle.solo_core.specs.Peeled.{AreCellsOf, KeepsOthers, LeadByMates};
 ghost use Rattle.solo_core.specs.Ways.{IsTransitiveClosure, LeadsOver};
 
-use crate::visits::bits::with_more;
+use crate::visits::bits::with_more_if;
+use engine_core::has_bit;
 
 /// Writes that the mate of each of these cells leads to the cell's values.
 pub(crate) fn write_leads(sets: &[u32], rest: &[u8], mates: &[u8], leads: &mut [u32])
@@ -49,6 +50,7 @@ fn reach_over(reach: &mut [u32], over: u8)
         return;
     }
     for value in 0..reach.len() {
-        reach[value] = with_more(reach[value], over, more);
+        let leads = has_bit(reach[value], over);
+        reach[value] = with_more_if(reach[value], more, leads);
     }
 }

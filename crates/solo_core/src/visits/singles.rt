@@ -1,12 +1,12 @@
 //! What a visit of a house keeps by its single values and places.
 #![tactic(auto, using(crate::proofs::SinglesLemmas::decided_broken))]
 
-ghost use Rattle.std.specs.Prelude.{◌≡◌, ℕ, ◌<◌, ◌≤◌, length, slice_index};
+ghost use Rattle.std.specs.Prelude.{◌≡◌, ℕ, ◌<◌, ◌≤◌, length};
 ghost use Rattle.grid_core.specs.Candidates.{max_values};
 ghost use Rattle.solo_core.specs.Common.{any_below, has_bit as is_set, IsDecided, has_in};
-ghost use Rattle.solo_core.specs.Singles.{is_elsewhere as some_elsewhere, is_only_place as only_place, taken_elsewhere, needed_for_other, has_only_bit, has_other_bit, has_empty_cell as some_empty, has_lost_value as some_lost, is_broken as some_broken, stays_in, strikes_by_singles};
+ghost use Rattle.solo_core.specs.Singles.{has_other_bit, has_only_bit, is_broken as some_broken, stays_in, strikes_by_singles};
 
-use crate::visits::bits::with_bit_if;
+use crate::visits::bits::{next_bit, others_below, with_more_if, without};
 use engine_core::has_bit;
 
 /// Decides what is kept of the sets of a house: a value is struck from a cell where another cell has only that value,
@@ -31,114 +31,53 @@ fn keep_cell(values: u8, sets: &[u32], place: usize) -> u32
     requires place_in { place < length sets.now }
     ensures { (v : ℕ) → v < values → is_set result v ≡ stays_in values sets.now place v }
 {
-    let mut kept = 0u32;
-    for value in 0..values {
-        let on = stays(values, sets, place, value);
-        kept = with_bit_if(kept, usize::from(value), on);
+    let (mut taken, mut elsewhere) = (0, 0);
+    for j in 0..sets.len() {
+        taken = with_more_if(taken, only_value(values, sets[j]), j != place);
+        elsewhere = with_more_if(elsewhere, sets[j], j != place);
     }
-    kept
+    let set = without(sets[place], taken);
+    without(set, beside(values, without(sets[place], elsewhere)))
 }
 
-/// Whether the cell has the value, and it is neither taken by another cell nor given up for another value.
-fn stays(values: u8, sets: &[u32], place: usize, value: u8) -> bool
-    requires few { values ≤ max_values }
-    requires place_in { place < length sets.now }
-    requires value_in { value < values }
-    ensures { result ≡ stays_in values sets.now place value }
+/// The value of a set that has no other.
+fn only_value(values: u8, set: u32) -> u32
+    requires { values ≤ max_values }
+    ensures { (v : ℕ) → v < values → is_set result v ≡ has_only_bit values set v }
 {
-    has_bit(sets[place], value)
-        && !is_taken(values, sets, place, value)
-        && !is_needed(values, sets, place, value)
+    without(set, beside(values, set))
 }
 
-/// Whether another cell has only the value.
-pub(crate) fn is_taken(values: u8, sets: &[u32], place: usize, value: u8) -> bool
-    requires few { values ≤ max_values }
-    requires value_in { value < values }
-    ensures { result ≡ taken_elsewhere (length sets.now) values (has_in sets.now) place value }
+/// The values beside which the set has another.
+fn beside(values: u8, set: u32) -> u32
+    requires { values ≤ max_values }
+    ensures { (v : ℕ) → v < values → is_set result v ≡ has_other_bit values set v }
 {
-    (0..sets.len()).any(|j| j != place && has_only(values, sets[j], value))
-}
-
-/// Whether the set has the value and no other.
-fn has_only(values: u8, set: u32, value: u8) -> bool
-    requires few { values ≤ max_values }
-    requires value_in { value < values }
-    ensures { result ≡ has_only_bit values set value }
-{
-    has_bit(set, value) && !has_other(values, set, value)
-}
-
-/// Whether the set has a value other than this one.
-fn has_other(values: u8, set: u32, value: u8) -> bool
-    requires few { values ≤ max_values }
-    ensures { result ≡ has_other_bit values set value }
-{
-    (0..values).any(|other| other != value && has_bit(set, other))
-}
-
-/// Whether the cell is the only place of another value.
-fn is_needed(values: u8, sets: &[u32], place: usize, value: u8) -> bool
-    requires few { values ≤ max_values }
-    requires place_in { place < length sets.now }
-    ensures { result ≡ needed_for_other (length sets.now) values (has_in sets.now) place value }
-{
-    (0..values).any(|other| other != value && is_only_place(sets, place, other))
-}
-
-/// Whether the cell has the value and no other cell has it.
-fn is_only_place(sets: &[u32], place: usize, value: u8) -> bool
-    requires few { value < max_values }
-    requires place_in { place < length sets.now }
-    ensures { result ≡ only_place (length sets.now) (has_in sets.now) place value }
-{
-    has_bit(sets[place], value) && !is_elsewhere(sets, place, value)
-}
-
-/// Whether another cell has the value.
-fn is_elsewhere(sets: &[u32], place: usize, value: u8) -> bool
-    requires few { value < max_values }
-    ensures { result ≡ some_elsewhere (length sets.now) (has_in sets.now) place value }
-{
-    (0..sets.len()).any(|j| j != place && has_bit(sets[j], value))
+    let mut others = 0;
+    for value in 0..values {
+        let all_others = others_below(values, 1 << value);
+        others = with_more_if(others, all_others, has_bit(set, value));
+    }
+    others
 }
 
 /// Whether some cell has no value, or some value no place.
 fn is_broken(values: u8, sets: &[u32]) -> bool
-    requires few { values ≤ max_values }
+    requires { values ≤ max_values }
     ensures { result ≡ some_broken (length sets.now) values (has_in sets.now) }
 {
-    has_empty_cell(values, sets) || has_lost_value(values, sets)
-}
-
-/// Whether some cell has no value.
-fn has_empty_cell(values: u8, sets: &[u32]) -> bool
-    requires few { values ≤ max_values }
-    ensures { result ≡ some_empty (length sets.now) values (has_in sets.now) }
-{
-    (0..sets.len()).any(|j| !has_some(values, sets[j]))
+    let (mut some, mut empty) = (0, false);
+    for j in 0..sets.len() {
+        some |= sets[j];
+        empty |= !has_some(values, sets[j]);
+    }
+    empty || has_some(values, others_below(values, some))
 }
 
 /// Whether the set has a value.
 fn has_some(values: u8, set: u32) -> bool
-    requires few { values ≤ max_values }
+    requires { values ≤ max_values }
     ensures { result ≡ any_below (is_set set) values }
 {
-    (0..values).any(|value| has_bit(set, value))
-}
-
-/// Whether some value has no place.
-fn has_lost_value(values: u8, sets: &[u32]) -> bool
-    requires few { values ≤ max_values }
-    ensures { result ≡ some_lost (length sets.now) values (has_in sets.now) }
-{
-    (0..values).any(|value| !has_place(sets, value))
-}
-
-/// Whether some cell has the value.
-fn has_place(sets: &[u32], value: u8) -> bool
-    requires few { value < max_values }
-    ensures { result ≡ any_below (λ j. has_in sets.now j value) (length sets.now) }
-{
-    (0..sets.len()).any(|j| has_bit(sets[j], value))
+    next_bit(set, 0, usize::from(values)).is_some()
 }

@@ -1,5 +1,5 @@
 use Rattle.solo_core.proofs.Common.{has_in, length, ◌≡◌}
-use Rattle.solo_core.proofs.WayLemmas.{ReachesOver}
+use Rattle.solo_core.specs.Ways.{ReachesOver}
 use Rattle.solo_core.proofs.visits.reach.close_under_steps.Given as goal
 
 abbrev pub invariant-loop-over : goal.invariant-loop-over

@@ -1,6 +1,6 @@
-use Rattle.std.proofs.Common.{refl, rules, tests}
-use Rattle.solo_core.proofs.SinglesLemmas.{any_in_range}
+use Rattle.solo_core.proofs.Common.{◌∙◌}
+use Rattle.solo_core.proofs.SinglesLemmas.{some_below}
 use Rattle.solo_core.proofs.visits.singles.has_some.Goals as goal
 
 pub returns : goal.returns
-returns c = any_in_range _ _ refl c.any.ensures.ran (λ x q k. search (rules, tests)) (λ x q k. search (rules, tests))
+returns c = c.is_some.ensures ∙ some_below _ _ _ (rw c.from.ensures at c.next_bit.ensures)

@@ -1,8 +1,9 @@
-use Rattle.solo_core.proofs.Common.{false, has_bit, stays_in, ℕ, ◌<◌, ◌≡◌, ◌≤◌}
+use Rattle.solo_core.proofs.Common.{any_below, eqb, has_bit, has_in, not, ℕ, ◌&&◌, ◌<◌, ◌≡◌}
+use Rattle.solo_core.specs.Singles.{has_only}
 use Rattle.solo_core.proofs.visits.singles.keep_cell.Given as goal
 
-abbrev pub invariant-loop-value : goal.invariant-loop-value
-invariant-loop-value l = record {
-  below : (v : ℕ) → v < l.value → has_bit l.kept v ≡ stays_in l.values l.sets l.place v;
-  above : (v : ℕ) → l.value ≤ v → has_bit l.kept v ≡ false;
+abbrev pub invariant-loop-j : goal.invariant-loop-j
+invariant-loop-j l = record {
+  taken : (v : ℕ) → v < l.values → has_bit l.taken v ≡ any_below (λ k. not (eqb k l.place) && has_only l.values (has_in l.sets) k v) l.j;
+  elsewhere : (v : ℕ) → has_bit l.elsewhere v ≡ any_below (λ k. not (eqb k l.place) && has_in l.sets k v) l.j;
 }

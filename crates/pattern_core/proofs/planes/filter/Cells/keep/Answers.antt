@@ -1,6 +1,6 @@
-use Rattle.pattern_core.proofs.Common.{along, any_below-same, ap, arith, led, length, sets_by, slots_of, subst, sym, ◌&&◌, ◌<◌, ◌∙◌, ◌≡◌}
-use Rattle.pattern_core.proofs.LineWords.{IsCellShown, IsShownTo, both-ways, length-sets, sets-at, sets-bit, shown-kept, shown-more, shown-none}
-use Rattle.pattern_core.proofs.TableSteps.{leads_black, leads_white, reached_first, reached_next, row_next, shown_at}
+use Rattle.pattern_core.proofs.Common.{along, any_below-same, ap, arith, led, length, sets_by, slots_of, subst, sym, ℕ, ◌&&◌, ◌<◌, ◌∙◌, ◌≡◌}
+use Rattle.pattern_core.proofs.LineWords.{IsCellShown, IsShownTo, length-sets, sets-at, sets-bit, shown-kept, shown-more, shown-none}
+use Rattle.pattern_core.proofs.TableSteps.{reached_first, reached_next, row_next, shown_on}
 use Rattle.pattern_core.proofs.planes.filter.Cells.keep.Goals as goal
 
 pub loop-at-init : goal.loop-at-init
@@ -21,14 +21,12 @@ loop-at-preserved g c =
     let lt : at < length sets = omega (arith, c.loop-at-test.true, long) in
     let after = row_next has t sets c.args.rows.now 0 at row c.requires.rows (omega arith) lt c.index-rows-at.is in
     let below = c.requires.below in
-    let is_white = c.is_some.ensures ∙ any_below-same _ (λ p. has ways.white p && has row p) room (λ p low. c.both.ensures p)
-    ∙ leads_white room t sets (has c.loop-at.reached) at i.2 lt (has row) after (has ways.white) below c.ways_of-ways.ensures.white in
-    let is_black = c.is_some-in-loop-at.ensures ∙ any_below-same _ (λ p. has ways.black p && has row p) room (λ p low. c.both-in-loop-at.ensures p)
-    ∙ leads_black room t sets (has c.loop-at.reached) at i.2 lt (has row) after (has ways.black) below c.ways_of-ways.ensures.black in (
-      shown-more _ _ (IsCellShown t white black c.args.count 0) c.is_some.result at i.0 c.with_if-white.ensures (both-ways is_white (sym (sets-bit white black c.args.count at 0 c.loop-at-test.true (omega arith)))
-          ∙ sym (shown_at room t sets (has c.loop-at.reached) at i.2 lt (has row) after 0 (omega arith))),
-      shown-more _ _ (IsCellShown t white black c.args.count 1) c.is_some-in-loop-at.result at i.1 c.with_if-black.ensures (both-ways is_black (sym (sets-bit white black c.args.count at 1 c.loop-at-test.true (omega arith)))
-          ∙ sym (shown_at room t sets (has c.loop-at.reached) at i.2 lt (has row) after 1 (omega arith))),
+    let bit = λ (v : ℕ) (low : v < 2). sym (sets-bit white black c.args.count at v c.loop-at-test.true low) in
+    let shown = shown_on room t sets (has c.loop-at.reached) at i.2 lt (has row) after in (
+      shown-more _ _ (IsCellShown t white black c.args.count 0) c.is_some.result at i.0 c.with_if-white.ensures
+          (shown 0 (has ways.white) _ _ (omega arith) below c.ways_of-ways.ensures.white (c.is_some.ensures ∙ any_below-same _ (λ p. has ways.white p && has row p) room (λ p low. c.both.ensures p)) (bit 0 (omega arith))),
+      shown-more _ _ (IsCellShown t white black c.args.count 1) c.is_some-in-loop-at.result at i.1 c.with_if-black.ensures
+          (shown 1 (has ways.black) _ _ (omega arith) below c.ways_of-ways.ensures.black (c.is_some-in-loop-at.ensures ∙ any_below-same _ (λ p. has ways.black p && has row p) room (λ p low. c.both-in-loop-at.ensures p)) (bit 1 (omega arith))),
       reached_next room t sets (has c.loop-at.reached) (has c.led_by-reached.result) at below lt
           (λ p low. c.led_by-reached.ensures p low ∙ ap (λ s. led t s (has c.loop-at.reached) p) (c.set.ensures ∙ sym (sets-at white black c.args.count at c.loop-at-test.true))) i.2,
     )
