@@ -96,10 +96,7 @@ module _ {cells : ℕ} {places : List ℕ} (K : Candidates) (is : IsHouse cells 
     several = count-two (λ c. K c 1) places d e ne in_d in_e on_d on_e
 
     none-lone : (c : ℕ) → is_lone places K c ≡ false
-    none-lone c = rw (ne_eqb (count_by (λ d. K d 1) places) 1 (λ e. absurd (omega (arith, several)))) (by (K c 1) (has_place places c))
-      where
-        by : (a b : Bool) → (a && (b && false)) ≡ false
-        by a b = grind (arith, common_steps, cases_Bool a, cases_Bool b)
+    none-lone c = rw (ne_eqb (count_by (λ d. K d 1) places) 1 (λ e. absurd (omega (arith, several)))) (grind (arith, common_steps, cases_Bool (K c 1), cases_Bool (has_place places c)))
 
     several-idle : (c v : ℕ) → K c v ≡ true → strikes_of (one_at_least places) K c v ≡ false
     unfolding after_house
@@ -120,10 +117,7 @@ module _ {cells : ℕ} {places : List ℕ} (K : Candidates) (is : IsHouse cells 
   -- ---- a cell that must be a one: the house is idle
   module _ (d : ℕ) (in_d : has_place places d ≡ true) (on_d : K d 1 ≡ true) (must : K d 0 ≡ false) where
     never-lone : {c : ℕ} → c ≢ d → is_lone places K c ≡ false
-    never-lone {c} ne = false_from_ne_true _ (λ on.
-        let w = and_parts (K c 1) _ on in let v = and_parts (has_place places c) _ w.1 in
-        let one = eqb-true (count_by (λ d. K d 1) places) 1 v.1 in
-        absurd (omega (arith, one, count-two (λ c. K c 1) places c d ne v.0 in_d w.0 on_d)))
+    never-lone {c} ne = grind (arith, common_steps, false_from_ne_true, and_parts, eqb-true, count-two)
 
     pub must-stay : after_house (one_at_least places) K ≡ K
     unfolding without_zeros

@@ -7,13 +7,7 @@ pub same-truth : (a b : Bool) → (a ≡ true → b ≡ true) → (b ≡ true �
 same-truth a b to from = grind (arith, common_steps, cases_Bool a, cases_Bool b)
 
 pub cell-is : (w y x c : ℕ) → x < w → eqb (y * w + x) c ≡ (eqb (c / w) y && eqb (c % w) x)
-cell-is w y x c lt = same-truth _ _
-    (λ on.
-    let e = eqb-true (y * w + x) c on in
-    rw (← e, div-mul-add y w x lt, place-column w y x lt) (and_from _ _ (eq-eqb y y refl) (eq-eqb x x refl)))
-    (λ on.
-    let parts = and_parts _ _ on in let q = eqb-true (c / w) y parts.0 in
-    let r = eqb-true (c % w) x parts.1 in eq-eqb _ _ (rw (← q, ← r) (div-add-mod' c w)))
+cell-is w y x c lt = grind (arith, common_steps, same-truth, eqb-true, div-mul-add, place-column, and_from, eq-eqb, and_parts, div-add-mod')
 
 -- the cells of a line are those at its places
 pub place-on : (cell : ℕ → ℕ) (n c : ℕ) → has_place (map cell (range_with_len 0 n)) c ≡ true → (k : ℕ) × (k < n) × (cell k ≡ c)

@@ -251,10 +251,7 @@ module _ (cells : ℕ) (house : CountHouse) (K : Candidates) (t : Tally) (is : I
   -- ---- the board after a visit
   pub after-at : {k v : ℕ} → k < length house.places → v < 2 → after_house house K (at k) v ≡ (K (at k) v && stays t (bounds_of house) (is_open K (at k)) v)
   unfolding after_house strikes_of
-  after-at {k} {v} lt low =
-      ap (λ b. K (at k) v && not b)
-      (strikes_at-place 2 house.places (strikes_by_fillings (counts_between house.least house.most))
-      K k v is.different lt) ∙ stays-at lt low
+  after-at {k} {v} lt low = grind (arith, common_steps, strikes_at-place, stays-at)
 
   -- a house strikes nothing where both values of a cell with both would stay, if there may be such a cell
   pub idle-at : ((v : ℕ) → v < 2 → stays t (bounds_of house) (not (eqb t.must t.may)) v ≡ true) → (c v : ℕ) → v < 2 → K c v ≡ true

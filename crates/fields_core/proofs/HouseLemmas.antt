@@ -213,25 +213,14 @@ if-there false place = refl
 step-count : (test : ℕ → Bool) (size : Extent) (place n : ℕ) (there : Bool) (next : ℕ) → step size place n ≡ cond there (Some next) None
     → length (filter test (steps size place (suc n))) ≡ length (filter test (steps size place n)) + passing_if test there next
 unfolding steps
-step-count test size place n there next e =
-    ap length (filter-append test (steps size place n) (if_there (step size place n))) ∙ length-append _ _
-    ∙ ap (λ l. length (filter test (steps size place n)) + length (filter test l)) (ap if_there e ∙ if-there there next)
+step-count test size place n there next e = grind (arith, common_steps, filter-append, length-append, if-there)
 
 pub beside-count : (test : ℕ → Bool) (size : Extent) (x y : ℕ) → x < size.w
     → passing_if test (ltb 0 y) (y * size.w + x - size.w) + passing_if test (ltb 0 x) (y * size.w + x - 1)
     + passing_if test (ltb (x + 1) size.w) (y * size.w + x + 1) + passing_if test (ltb (y + 1) size.h) (y * size.w + x + size.w)
     ≡ length (filter test (steps size (y * size.w + x) 4))
 unfolding steps step
-beside-count test size x y lt =
-    let c = y * size.w + x in let row = div-mul-add y size.w x lt in
-    let column = place-column size.w y x lt in
-    omega (
-      arith,
-      step-count test size c 0 (ltb 0 y) (c - size.w) (rw row refl),
-      step-count test size c 1 (ltb 0 x) (c - 1) (rw column refl),
-      step-count test size c 2 (ltb (x + 1) size.w) (c + 1) (rw column refl),
-      step-count test size c 3 (ltb (y + 1) size.h) (c + size.w) (rw row refl),
-    )
+beside-count test size x y lt = grind (arith, common_steps, div-mul-add, place-column, step-count)
 
 -- ---- the house of a cell's number
 pub number-at : (p : Light) (c n : ℕ) → slice_get p.cells c ≡ Some (Numbered n) → exactly n (filter (white p) (steps p.size c 4)) ∷ [] ≡ number_house p c

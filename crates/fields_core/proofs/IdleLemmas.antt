@@ -303,17 +303,7 @@ module _ (f : ℕ → List CountHouse) {n : ℕ} {left : ℕ → Bool} {from to 
 -- the least is taken from what is left
 module _ {left rest : ℕ → Bool} {room least : ℕ} (is : IsLeast left room least) (without : (k : ℕ) → rest k ≡ (left k && not (eqb k least))) where
   pub rest-on : (k : ℕ) → rest k ≡ true → (least < k) × (left k ≡ true)
-  rest-on k on =
-      let w = and_parts _ _ (sym (without k) ∙ on) in (
-        elim (cases_lt least k) [
-          | inl high ↦ high
-          | inr low ↦ elim (cases_eq k least) [
-            | inl e ↦ let gone : not (eqb k least) ≡ false = rw (e, eq-eqb least least refl) refl in absurd (true≢false (sym w.1 ∙ gone))
-            | inr ne ↦ absurd (true≢false (sym w.0 ∙ is.before k (omega (arith, low, ne))))
-          ]
-        ],
-        w.0,
-      )
+  rest-on k on = grind (arith, common_steps, and_parts, cases_lt, cases_eq, eq-eqb)
 
   pub rest-off : {k : ℕ} → least < k → rest k ≡ false → left k ≡ false
   rest-off {k} high off =
@@ -326,14 +316,7 @@ module _ {left rest : ℕ → Bool} {room least : ℕ} (is : IsLeast left room l
 -- places of a word behind one
 module _ (word first rest : ℕ → Bool) (line : ℕ) (first_is : (k : ℕ) → first k ≡ ltb k (line + 1)) (is : (k : ℕ) → rest k ≡ (word k && not (first k))) where
   pub from-on : (k : ℕ) → rest k ≡ true → (line < k) × (word k ≡ true)
-  from-on k on =
-      let w = and_parts _ _ (sym (is k) ∙ on) in (
-        elim (cases_lt line k) [
-          | inl high ↦ high
-          | inr low ↦ absurd (true≢false (sym (first_is k ∙ lt-ltb k (line + 1) (omega (arith, low))) ∙ not-true _ w.1))
-        ],
-        w.0,
-      )
+  from-on k on = grind (arith, common_steps, and_parts, cases_lt, lt-ltb, not-true)
 
   pub from-off : {k : ℕ} → line < k → rest k ≡ false → word k ≡ false
   from-off {k} high off = by (word k) (first k) (first_is k ∙ le-ltb k (line + 1) (omega (arith, high))) (sym (is k) ∙ off)

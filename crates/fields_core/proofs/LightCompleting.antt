@@ -137,11 +137,7 @@ module _ (p : Light) (names : List (HouseName LightHouse)) (are : AreNamed (ligh
   -- where none of the first names asks for what no grid has, no number is lonely
   pub none-lonely : ((k : ℕ) → k < length names → k < light_cells p → calls p (get_or names k no_name) ≡ false)
       → any_below (lonely p) (light_cells p) ≡ false
-  none-lonely off = false_from_ne_true _ (λ on.
-      let w = any_below-some (lonely p) (light_cells p) on in let parts = and_parts _ _ w.2 in
-      let cell = asks-number (get_or p.cells w.0 Black) parts.0 in
-      let name = number-named w.1 cell.1 cell.2 (eqb-true _ _ parts.1) in
-      true≢false (sym name.3 ∙ off name.0 name.1 name.2))
+  none-lonely off = grind (arith, common_steps, false_from_ne_true, any_below-some, and_parts, asks-number, number-named, eqb-true)
 
   -- one of them that does is that of a lonely number
   pub some-lonely : (k : ℕ) → IsLight p → k < length names → calls p (get_or names k no_name) ≡ true → any_below (lonely p) (light_cells p) ≡ true
@@ -167,10 +163,7 @@ module _ (p : Light) (g : List ℕ) (is : IsLight p) (grid : IsGrid (light_cells
   Meets house = 0 < length house.places → meets house g ≡ true
 
   bulb-white : (c : ℕ) → c < light_cells p → bulb g c ≡ true → white p c ≡ true
-  bulb-white c lt on = elim (cases_Bool (white p c)) [
-    | inl is ↦ is
-    | inr off ↦ let a = met.blocked_zero c lt (ap not off) in let b = eqb-true _ _ on in absurd (omega arith)
-  ]
+  bulb-white c lt on = grind (arith, common_steps, cases_Bool, eqb-true)
 
   -- ---- runs
   row-met : (c : ℕ) → white p c ≡ true → Meets (one_at_most (row_run p c))
@@ -193,10 +186,7 @@ module _ (p : Light) (g : List ℕ) (is : IsLight p) (grid : IsGrid (light_cells
   run-apart : (run : List ℕ) (c d : ℕ) → Meets (one_at_most run) → has_place run c ≡ true → has_place run d ≡ true → bulb g c ≡ true → bulb g d ≡ true
       → (c ≡ d → ⊥) → ⊥
   unfolding meets
-  run-apart run c d is_met mc md bc bd apart =
-      let some = has_place-at run c mc in let counts = and_parts _ _ (is_met (omega (arith, some.1))) in
-      let few = leb-true (nonzeros (map (slice_index g) run)) 1 counts.1 in
-      omega (arith, few, ones-bulbs g run (small-at grid), count-two (bulb g) run c d mc md bc bd apart)
+  run-apart run c d is_met mc md bc bd apart = grind (arith, common_steps, has_place-at, and_parts, leb-true, ones-bulbs, small-at, count-two)
 
   bulbs-right : (c : ℕ) → c < light_cells p → bulb_right p g c ≡ true
   unfolding bulb_right sees_bulb sees
@@ -244,10 +234,7 @@ module _ (p : Light) (g : List ℕ) (is : IsLight p) (grid : IsGrid (light_cells
 
   blacks-right : (c : ℕ) → c < light_cells p → black_right p g c ≡ true
   unfolding black_right
-  blacks-right c lt = elim (cases_Bool (white p c)) [
-    | inl on ↦ or_left _ _ on
-    | inr off ↦ or_right _ _ (eq-eqb _ _ (met.blocked_zero c lt (ap not off)))
-  ]
+  blacks-right c lt = grind (arith, common_steps, cases_Bool, or_left, or_right, eq-eqb)
 
   -- ---- numbers
   number-met : {c : ℕ} (n : ℕ) → c < light_cells p → get_or p.cells c Black ≡ Numbered n → Meets (exactly n (filter (white p) (steps p.size c 4)))
@@ -273,15 +260,7 @@ module _ (p : Light) (g : List ℕ) (is : IsLight p) (grid : IsGrid (light_cells
   -- a number is right unless it is above 0 with no white cell beside it
   number-told : {c : ℕ} → c < light_cells p → number_right p g c ≡ not (lonely p c)
   unfolding number_right
-  number-told {c} lt = by _ refl
-    where
-      by : (cell : LightCell) → get_or p.cells c Black ≡ cell → number_right p g c ≡ not (lonely p c)
-      by White e = rw e refl
-      by Black e = rw e refl
-      by (Numbered n) e = elim (cases_eq (length (whites c)) 0) [
-        | inl none ↦ grind (arith, common_steps, beside-none, cases_eq n 0, eq-eqb, ne_eqb, e, none)
-        | inr some ↦ grind (arith, common_steps, beside-met, eq-eqb, ne_eqb, e, some)
-      ]
+  number-told {c} lt = grind (arith, common_steps, cases_eq, beside-none, eq-eqb, ne_eqb, beside-met)
 
   pub completed : {told : Bool} → told ≡ not (any_below (lonely p) (light_cells p)) → told ≡ solves_lights p g
   completed {told} e = e ∙ sym (elim (cases_Bool (any_below (lonely p) (light_cells p))) [

@@ -202,10 +202,7 @@ column-run-on p d some off on =
     (d - p.size.w, next, before, column-run-next p (d - p.size.w) d some next before on)
   where
     low : eqb (d / p.size.w) 0 ≡ false → p.size.w ≤ d
-    low ne = elim (cases_lt d p.size.w) [
-      | inl top ↦ absurd (true≢false (sym (eq-eqb _ _ (div-eq_of_lt {n = d} {m = p.size.w} top)) ∙ ne))
-      | inr inner ↦ inner
-    ]
+    low ne = grind (arith, common_steps, cases_lt, eq-eqb, div-eq_of_lt)
 
 -- a white cell lies in the grid
 pub white-in : (p : Light) (c : ℕ) → length p.cells ≡ light_cells p → white p c ≡ true → c < light_cells p

@@ -87,22 +87,11 @@ module _ {p : Light} {y x row_bits column_bits others : ℕ} {from : Layers} {ro
 
   -- the others of the column are those at other places
   other-at : (c : ℕ) → c % p.size.w ≡ x → eqb c cell ≡ eqb (c / p.size.w) y
-  other-at c same = same-truth _ _
-      (λ on. eq-eqb (c / p.size.w) y (rw (eqb-true c cell on) (div-mul-add y p.size.w x x_in)))
-      (λ on. eq-eqb c cell (whole-cell p.size.w c ∙ rw (eqb-true (c / p.size.w) y on, same) refl))
+  other-at c same = grind (arith, common_steps, same-truth, eq-eqb, eqb-true, div-mul-add, whole-cell)
 
   seen-has : (c : ℕ) → has_place (seen_from p cell) c ≡ lies_in_first p.size.w (both_pieces y x row_bits others) 2 c
   unfolding seen_from crosses
-  seen-has c =
-      has-append (row_run p cell) _ c
-      ∙ rw (row-run-has c, filter-has (λ d. not (eqb d cell)) (column_run p cell) c, column-run-has c, lies-both p.size.w y x row_bits others c, s.others_is (c / p.size.w))
-      (ap (λ b. (eqb (c / p.size.w) y && has_bit row_bits (c % p.size.w)) || b) (elim (cases_eq (c % p.size.w) x) [
-        | inl same ↦ rw (other-at c same, eq-eqb _ _ same) (by (has_bit column_bits (c / p.size.w)) (eqb (c / p.size.w) y))
-        | inr ne ↦ rw (ne_eqb _ _ ne) refl
-      ]))
-    where
-      by : (a b : Bool) → ((true && a) && not b) ≡ (true && (a && not b))
-      by a b = grind (arith, common_steps, cases_Bool a, cases_Bool b)
+  seen-has c = grind (arith, common_steps, has-append, row-run-has, filter-has, column-run-has, lies-both, cases_eq, other-at, eq-eqb, cases_Bool, ne_eqb)
 
   -- a white cell has itself in its run, a black one has no run
   white-run : any_below (has_bit row_bits) room ≡ true → white p cell ≡ true

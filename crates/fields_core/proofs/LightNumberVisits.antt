@@ -61,10 +61,7 @@ beside-cell size y {x} d lt =
     left = rw (cell-is size.w y (x - 1) d (omega arith)) refl
 
     right : (ltb (x + 1) size.w && eqb (y * size.w + (x + 1)) d) ≡ (ltb (x + 1) size.w && (eqb (d / size.w) y && eqb (d % size.w) (x + 1)))
-    right = elim (cases_lt (x + 1) size.w) [
-      | inl less ↦ rw (cell-is size.w y (x + 1) d less) refl
-      | inr high ↦ rw (le-ltb _ _ high) refl
-    ]
+    right = grind (arith, common_steps, cases_lt, cell-is, le-ltb)
 
     two : (a b c d e : Bool) → ((a && (e && b)) || (c && (e && d))) ≡ (e && ((a && b) || (c && d)))
     two a b c d e = grind (arith, common_steps, cases_Bool a, cases_Bool b, cases_Bool c, cases_Bool e)
@@ -127,10 +124,7 @@ pieces-apart size {y} {x} row column y_in x_in off = record { lines_in = lines; 
     lines (suc (suc k)) less = absurd (omega arith)
 
     never : (c : ℕ) → lies_in size.w (piece_at pieces 0) c ≡ true → lies_in size.w (piece_at pieces 1) c ≡ true → ⊥
-    never c on_row on_column =
-        let in_row = and_parts (eqb (c / size.w) y) (has_bit row (c % size.w)) on_row in
-        let in_column = and_parts (eqb (c % size.w) x) (has_bit column (c / size.w)) on_column in
-        off (rw (eqb-true (c % size.w) x in_column.0) at in_row.1) (rw (eqb-true (c / size.w) y in_row.0) at in_column.1)
+    never c on_row on_column = grind (arith, common_steps, and_parts, eqb-true)
 
     apart : (j k c : ℕ) → j < 2 → k < 2 → lies_in size.w (piece_at pieces j) c ≡ true → lies_in size.w (piece_at pieces k) c ≡ true → j ≡ k
     apart zero zero c lj lk on_j on_k = refl
@@ -164,12 +158,7 @@ module _ (p : Light) (lawful : IsLight p) (y x row column : ℕ) (y_in : y < p.s
   column-part d = part-is (d % p.size.w) x (d / p.size.w) column (λ k. k * p.size.w + x) (white p) y_in column_is (λ same. rw (← same) (sym (whole-cell p.size.w d)))
 
   places-are : (d : ℕ) → has_place places d ≡ lies_in_first p.size.w pieces 2 d
-  places-are d =
-      filter-has (white p) (beside p.size cell) d
-      ∙ rw (beside-cell p.size y d x_in, lies-both p.size.w y x row column d, ← row-part d, ← column-part d) (by _ _ (white p d))
-    where
-      by : (a b c : Bool) → ((a || b) && c) ≡ ((a && c) || (b && c))
-      by a b c = grind (arith, common_steps, cases_Bool a, cases_Bool b, cases_Bool c)
+  places-are d = grind (arith, common_steps, filter-has, beside-cell, lies-both, row-part, column-part, cases_Bool)
 
   module _ (n : ℕ) (numbered : get_or p.cells cell Black ≡ Numbered n) (from : Layers) (size : from.size ≡ p.size) where
     house_is : IsHouse (light_cells p) (exactly n places)

@@ -12,12 +12,7 @@ use Rattle.fields_core.proofs.BesideLemmas.{row-in}
 -- a cell without a number has no house
 bare : (p : Light) (c : ℕ) → is_numbered p c ≡ false → number_house p c ≡ []
 unfolding is_numbered
-bare p c off = by (get_or p.cells c Black) refl
-  where
-    by : (cell : LightCell) → get_or p.cells c Black ≡ cell → number_house p c ≡ []
-    by White e = rw e refl
-    by Black e = rw e refl
-    by (Numbered n) e = absurd (true≢false (rw e at off))
+bare p c off = grind (arith, common_steps)
 
 -- none of the cells of a row that have no number waits
 pub numbers-all : (p : Light) (y word : ℕ) (K : Candidates) → IsRowOf p.size.w (is_numbered p) y word → AreIdleBut p word y K
@@ -81,10 +76,7 @@ last-done {rest = rest} {room = room} is none k lt on = elim (is.below k lt on) 
 
 -- none is below the least
 pub between : {places : ℕ → Bool} {room least : ℕ} → IsLeast places room least → (k : ℕ) → places k ≡ true → least ≤ k
-between {least = least} is k on = elim (cases_lt k least) [
-  | inl less ↦ absurd (true≢false (sym on ∙ is.before k less))
-  | inr more ↦ more
-]
+between {least = least} is k on = grind (arith, common_steps, cases_lt)
 
 -- ---- columns that are white from one row on and before another
 abbrev pub AreWhite : Light → ℕ → ℕ → ℕ → Type 0
@@ -116,10 +108,7 @@ live-parted p _ live {room} {x} y k alive none narrow lt on low high = false_fro
 -- those that a white cell sees are of its row, or joined to it in its column
 seen-parts : (p : Light) (c d : ℕ) → has_place (seen_from p c) d ≡ true → (joined_in_row p c d ≡ true) ⊎ (joined_in_column p c d ≡ true)
 unfolding seen_from
-seen-parts p c d on = elim (place-append (row_run p c) _ d on) [
-  | inl row ↦ inl (row-run-joined p c d row)
-  | inr column ↦ inr (column-run-joined p c d (place-filter _ (column_run p c) d column).0)
-]
+seen-parts p c d on = grind (arith, common_steps, place-append, row-run-joined, column-run-joined, place-filter)
 
 module _ {W : Type 0} (bits : W → ℕ) (p : Light) (lines : Touched W) (lawful : IsLight p) where
   pub away-from : {y x : ℕ} → y < p.size.h → x < p.size.w → (has_bit (bits lines.rows) y ≡ true → ⊥)

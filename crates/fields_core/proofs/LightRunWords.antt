@@ -239,10 +239,7 @@ columns-written p {x} whites from to low are before is c lt less = elim (cases_e
     apart i e = let f : x + i * p.size.w ≡ i * p.size.w + x = omega arith in ap (λ n. n % p.size.w) (sym e ∙ f) ∙ place-column p.size.w i x low
 
     row-in : (i : ℕ) → i * p.size.w + x ≡ c → i < p.size.h
-    row-in i e = elim (cases_lt i p.size.h) [
-      | inl inside ↦ inside
-      | inr past ↦ let m : p.size.h * p.size.w ≤ i * p.size.w = mul-le-mul_right p.size.w past in absurd (omega arith)
-    ]
+    row-in i e = grind (arith, common_steps, cases_lt, mul-le-mul_right)
 
 -- the cells of a column that can be 1 on the board that a search starts from
 pub column-whites : (p : Light) (planes : Layers) (x word : ℕ) → planes.size ≡ p.size → has planes ≡ (light_rules p).start → x < p.size.w

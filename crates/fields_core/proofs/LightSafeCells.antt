@@ -153,9 +153,7 @@ module _ (p : Light) (K : Candidates) (j whites : ℕ) (ones zeros : ℕ → Boo
   at x = omega arith
 
   up : (x d : ℕ) → has_bit whites x ≡ true → joined_in_column p ((j + 1) * p.size.w + x) d ≡ true → joined_in_column p (j * p.size.w + x) d ≡ true
-  up x d on joined =
-      let below = rw (at x) at joined in
-      joined-up p (j * p.size.w + x) some (here x on).1 (column-white-start p (j * p.size.w + x + p.size.w) d below) d below
+  up x d on joined = grind (arith, common_steps, joined-up, column-white-start)
 
   pub one-up : (now : ℕ) → ((x : ℕ) → has_bit now x ≡ ((has_bit one x || ones x) && has_bit whites x)) → HaveOneBelow p j now K
   one-up now is x on =

@@ -33,12 +33,7 @@ module _ (p : Light) (lawful : IsLight p) (c : ℕ) (is_white : white p c ≡ tr
 
   pub seen-in-column : (d : ℕ) → joined_in_column p c d ≡ true → has_place (seen_from p c) d ≡ true
   unfolding seen_from
-  seen-in-column d joined = elim (cases_eq d c) [
-    | inl same ↦ place-front (row_run p c) _ d (rw same (in-row-run p c c some (row-self p c is_white)))
-    | inr other ↦
-        let within = white-in p d (light-board lawful).long (column-white-end p c d some joined) in
-        place-back (row_run p c) _ d (place-kept _ (column_run p c) d (in-column-run p c some within joined) (ap not (ne_eqb _ _ other)))
-  ]
+  seen-in-column d joined = grind (arith, common_steps, cases_eq, place-front, in-row-run, row-self, white-in, light-board, column-white-end, place-back, place-kept, in-column-run, ne_eqb)
 
 -- ---- a run with two cells that can have a bulb, or one that must, leaves the houses of its cells idle
 run-safe : {p : Light} (c : ℕ) {K : Candidates} {joined : ℕ → Bool} → IsLight p → IsFull (light_cells p) K

@@ -116,10 +116,7 @@ spread-off bits {room} before lines now woken {j} {k} on lt off (inr (inr below)
 
 -- what keeps a value that it had, unless it is lost
 pub value-kept : {K L : Candidates} (c v : ℕ) → IsInside L K → (K c v ≡ true → L c v ≡ false → ⊥) → L c v ≡ K c v
-value-kept {K} {L} c v inside never = elim (cases_Bool (K c v)) [
-  | inl on ↦ (elim (cases_Bool (L c v)) [ inl still ↦ still | inr gone ↦ absurd (never on gone) ]) ∙ sym on
-  | inr off ↦ false_from_ne_true _ (λ on. true≢false (sym (inside c v on) ∙ off)) ∙ sym off
-]
+value-kept {K} {L} c v inside never = grind (arith, common_steps, cases_Bool, false_from_ne_true)
 
 -- the board when the trail had that length
 pub back-whole : {from to : Layers} {len : ℕ} → from.len ≡ len → IsFurther from to → back_at to len ≡ has from
@@ -141,10 +138,7 @@ module _ (p : CountPuzzle) {K : Candidates} {place : ℕ} (around : IsClosedArou
 
   -- the cell has a value
   pub around-some : K place 1 ≡ false → K place 0 ≡ false → ⊥
-  around-some no_one no_zero = elim (full-around.some place (around.within place around.value around.had).0) [
-    | inl on ↦ true≢false (sym on ∙ no_zero)
-    | inr on ↦ true≢false (sym on ∙ no_one)
-  ]
+  around-some no_one no_zero = grind (arith, common_steps, full-around)
 
   -- and alone has lost one
   pub around-lost : {W : Type 0} (bits : W → ℕ) (w v : ℕ) (lines : Touched W) → (K place v ≡ false → AreLinesOf bits lines (place / w) (place % w))

@@ -185,10 +185,7 @@ line-cut first stride k m {place} pos here =
     after i low lt e = let a : (k + 1) * stride ≤ i * stride = mul-le-mul_right stride (omega arith) in omega arith
 
     behind : filter others (map at (range_with_len (0 + k) (suc m))) ≡ line (place + stride) stride m
-    behind =
-        let z : 0 + k ≡ k = omega arith in let y : first + (k + 1) * stride ≡ place + stride = omega arith in
-        rw (z, eq-eqb _ _ here)
-        (kept-others at place (k + 1) m after ∙ sym (line-from first stride (k + 1) m) ∙ ap (λ n. line n stride m) y)
+    behind = grind (arith, common_steps, eq-eqb, kept-others, line-from)
 
 -- The runs that a walk over the cells keeps.
 -- ---- the run around a cell of a line
@@ -290,15 +287,10 @@ column-here p runs y x are lt = let e : ltb x x ≡ false = le-ltb x x (omega ar
 
 -- ---- places are small
 pub small-place : {p : Light} {x y : ℕ} → IsLight p → x < p.size.w → y < p.size.h → y * p.size.w + x < 2 ^ 16
-small-place {p} {x} {y} is low high =
-    let rows : (y + 1) * p.size.w ≤ p.size.h * p.size.w = mul-le-mul_right p.size.w (omega (arith, high)) in
-    let few : p.size.h * p.size.w ≤ 120 * p.size.w = mul-le-mul_right p.size.w (omega (arith, is.size.extent)) in
-    omega (arith, rows, few, is.size.extent)
+small-place {p} {x} {y} is low high = grind (arith, common_steps, mul-le-mul_right)
 
 pub few-places : {p : Light} → IsLight p → light_cells p < 2 ^ 16
-few-places {p} is =
-    let few : p.size.w * p.size.h ≤ 120 * p.size.h = mul-le-mul_right p.size.h (omega (arith, is.size.extent)) in
-    omega (arith, few, is.size.extent)
+few-places {p} is = grind (arith, common_steps, mul-le-mul_right)
 
 -- ---- the house of a white cell
 around-line : (p : Light) (first stride : ℕ) {len at start end : ℕ} → IsAround (line_white p first stride) len at start end
@@ -336,22 +328,13 @@ lit-lines p {y} {x} {left} {right} {top} {end} lt on row column =
         ∙ rw whole at (line-cut (x + top * p.size.w) p.size.w (y - top) (end - y - 1) (omega arith) here)
 
 lines-long : (a m i b n j c k l : ℕ) → length (line a m i ++ (line b n j ++ line c k l)) ≡ i + (j + l)
-lines-long a m i b n j c k l =
-    length-append (line a m i) _ ∙ ap₂ (λ s t. s + t) (length-map-range_with_len _ 0 i)
-    (length-append (line b n j) _ ∙ ap₂ (λ s t. s + t) (length-map-range_with_len _ 0 j) (length-map-range_with_len _ 0 l))
+lines-long a m i b n j c k l = grind (arith, common_steps, length-append, length-map-range_with_len)
 
 -- it is as long as both runs together, but for the cell that they share
 pub lit-long : (p : Light) {y : ℕ} (x left right : ℕ) {top end : ℕ} → IsAround (line_white p x p.size.w) p.size.h y top end
     → right - left + (end - top - 1) ≡ length (line (y * p.size.w + left) 1 (right - left)
     ++ (line (x + top * p.size.w) p.size.w (y - top) ++ line (y * p.size.w + x + p.size.w) p.size.w (end - y - 1)))
-lit-long p {y} x left right {top} {end} column =
-    omega (
-      arith,
-      column.low,
-      column.past,
-      lines-long (y * p.size.w + left) 1 (right - left) (x + top * p.size.w) p.size.w (y - top)
-          (y * p.size.w + x + p.size.w) p.size.w (end - y - 1),
-    )
+lit-long p {y} x left right {top} {end} column = grind (arith, common_steps, lines-long)
 
 -- ---- the house of a run
 pub run-told : (p : Light) (first stride : ℕ) {len at end : ℕ} {places : List ℕ} → begins_at p first stride at ≡ true
@@ -388,13 +371,7 @@ column-black p c off = rw off refl
 
 -- each is the house that its place tells
 pub row-told : (p : Light) (y x : ℕ) → x < p.size.w → row_house p (y * p.size.w + x * 1) ≡ run_house p (y * p.size.w) 1 p.size.w x
-row-told p y x lt = ap (row_house p) z ∙ sym (row-house-is p y lt)
-  where
-    z : y * p.size.w + x * 1 ≡ y * p.size.w + x
-    z = omega arith
+row-told p y x lt = grind (arith, common_steps, row-house-is)
 
 pub column-told : (p : Light) (y x : ℕ) → x < p.size.w → column_house p (x + y * p.size.w) ≡ run_house p x p.size.w p.size.h y
-column-told p y x lt = ap (column_house p) z ∙ sym (column-house-is p y lt)
-  where
-    z : x + y * p.size.w ≡ y * p.size.w + x
-    z = omega arith
+column-told p y x lt = grind (arith, common_steps, column-house-is)

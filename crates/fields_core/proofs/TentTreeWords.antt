@@ -84,18 +84,12 @@ module _ {W : Type 0} (bits : W → ℕ) (room : ℕ) (size : Extent) (passes : 
   count-is = beside-count size passes y x lt ∙ rw (up-is, left-is, is.own (x + 1), down-is) refl
 
   pub some-beside : ((has_bit (bits near.above) x || has_bit (bits near.below) x) || (before || behind)) ≡ ltb 0 (count_by passes (beside size (y * size.w + x)))
-  some-beside = rw count-is (by (has_bit (bits near.above) x) before behind (has_bit (bits near.below) x))
-    where
-      by : (u l r d : Bool) → ((u || d) || (l || r)) ≡ ltb 0 (num u + num l + num r + num d)
-      by u l r d = grind (arith, common_steps, cases_Bool u, cases_Bool l, cases_Bool r, cases_Bool d)
+  some-beside = rw count-is (grind (arith, common_steps, cases_Bool (has_bit (bits near.above) x), cases_Bool before, cases_Bool behind, cases_Bool (has_bit (bits near.below) x)))
 
   pub one-beside : ((differ (has_bit (bits near.above) x || has_bit (bits near.below) x) (before || behind) && not (has_bit (bits near.above) x && has_bit (bits near.below) x)) && not (before && behind))
       ≡ eqb (count_by passes (beside size (y * size.w + x))) 1
   unfolding differ
-  one-beside = rw count-is (by (has_bit (bits near.above) x) before behind (has_bit (bits near.below) x))
-    where
-      by : (u l r d : Bool) → ((differ (u || d) (l || r) && not (u && d)) && not (l && r)) ≡ eqb (num u + num l + num r + num d) 1
-      by u l r d = grind (arith, common_steps, cases_Bool u, cases_Bool l, cases_Bool r, cases_Bool d)
+  one-beside = rw count-is (grind (arith, common_steps, cases_Bool (has_bit (bits near.above) x), cases_Bool before, cases_Bool behind, cases_Bool (has_bit (bits near.below) x)))
 
 -- ---- those of the cells that can be a one
 pub row-ones : (p : Layers) (y word : ℕ) → ((x : ℕ) → has_bit word x ≡ bit_of p.rows y 1 x) → ((x : ℕ) → has_bit word x ≡ true → x < p.size.w) → IsRowOf p.size.w (λ c. has p c 1) y word
@@ -287,7 +281,4 @@ pub zeros-taken : {w w₂ w₃ : ℕ} (above y below over own under : ℕ) (pass
     → K₃ ≡ without_zeros passes K
 unfolding without_taking covers crosses without_zeros
 zeros-taken {w} above y below over own under passes K first second third e₂ e₃ is = third ∙ rw (e₃, second, e₂, first) (fun_ext λ c. fun_ext λ v.
-    rw (sym (is c)) (by (K c v) (eqb v 0) (eqb (c / w) above && has_bit over (c % w)) (eqb (c / w) y && has_bit own (c % w)) (eqb (c / w) below && has_bit under (c % w))))
-  where
-    by : (k z a b d : Bool) → (((k && not (z && a)) && not (z && b)) && not (z && d)) ≡ (k && not (z && ((a || b) || d)))
-    by k z a b d = grind (arith, common_steps, cases_Bool k, cases_Bool z, cases_Bool a, cases_Bool b, cases_Bool d)
+    rw (sym (is c)) (grind (arith, common_steps, cases_Bool (K c v), cases_Bool (eqb v 0), cases_Bool (eqb (c / w) above && has_bit over (c % w)), cases_Bool (eqb (c / w) y && has_bit own (c % w)), cases_Bool (eqb (c / w) below && has_bit under (c % w)))))

@@ -194,9 +194,7 @@ rested-at {bits} {p} {planes} {place} {none} {now} {zeros} {ones} lawful are siz
 
 pub place-in_planes : (p : Tents) (planes : Layers) {from : Option ℕ} {place : ℕ}
     → planes.size ≡ p.size → from ≡ Some place → IsClosedBut (tent_rules p) (has planes) from → place < cells_of planes
-place-in_planes p planes {from} {place} size is closed =
-    let around : IsClosedAround (tent_rules p) (has planes) place = rw is at closed in
-    rw size (around.within place around.value around.had).0
+place-in_planes p planes {from} {place} size is closed = grind (arith, common_steps)
 
 -- ---- the houses of a kind
 abbrev column_house : Tents → ℕ → CountHouse

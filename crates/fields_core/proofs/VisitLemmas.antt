@@ -289,10 +289,7 @@ visits-met {cells} (house ∷ houses) K full (one, all) =
     let stay = zeros-stay full one in
     visits-met houses (after_house house K) (full-after full one) (subst (λ (z : ℕ → Bool). AllByRecursion (IsOneAtMost cells z) houses) (sym stay) all)
     ∙ fun_ext λ c. fun_ext λ v. rw (stay, ap (λ (f : ℕ → Bool). f c) stay, after-met c v full one)
-    (by (K c v) (eqb v 1) (K c 0) (is_met (zeros_of K) house c) (list_any (λ h. is_met (zeros_of K) h c) houses))
-  where
-    by : (a e z i j : Bool) → ((a && not (e && (z && i))) && not (e && (z && j))) ≡ (a && not (e && (z && (i || j))))
-    by a e z i j = grind (arith, common_steps, cases_Bool a, cases_Bool e, cases_Bool z, cases_Bool i, cases_Bool j)
+    (grind (arith, common_steps, cases_Bool (K c v), cases_Bool (eqb v 1), cases_Bool (K c 0), cases_Bool (is_met (zeros_of K) house c), cases_Bool (list_any (λ h. is_met (zeros_of K) h c) houses)))
 
 -- ---- two cells of a house without 0
 pub count-two : (test : ℕ → Bool) (xs : List ℕ) (d e : ℕ) → d ≢ e → has_place xs d ≡ true → has_place xs e ≡ true
@@ -311,9 +308,7 @@ count-two test (x ∷ xs) d e ne in_d in_e on_d on_e = elim (or_cases (eqb x d) 
 ]
   where
     first : (a b : ℕ) → x ≡ a → test a ≡ true → has_place xs b ≡ true → test b ≡ true → 1 < count_by test (x ∷ xs)
-    first a b same on_a there on_b =
-        let one : num (test x) ≡ 1 = rw (same, on_a) refl in
-        omega (arith, count-cons test x xs, one, count-some test xs b there on_b)
+    first a b same on_a there on_b = grind (arith, common_steps, count-cons, count-some)
 
 after-two : {cells : ℕ} {house : CountHouse} (K : Candidates) {d e v : ℕ} → IsHouse cells house → house.most ≡ 1
     → d ≢ e → has_place house.places d ≡ true → has_place house.places e ≡ true → K d 0 ≡ false → K e 0 ≡ false
