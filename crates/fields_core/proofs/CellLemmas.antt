@@ -6,6 +6,12 @@ use Rattle.fields_core.proofs.Common.{AreDistinct, AreRowsOf, Bool, Column, Exte
 pub same-truth : (a b : Bool) → (a ≡ true → b ≡ true) → (b ≡ true → a ≡ true) → a ≡ b
 same-truth a b to from = grind (arith, common_steps, cases_Bool a, cases_Bool b)
 
+pub first-off : {a b : Bool} → b ≡ true → (a && b) ≡ false → a ≡ false
+first-off {a} on e = grind (arith, common_steps, cases_Bool a)
+
+pub second-off : {a b : Bool} → a ≡ true → (a && b) ≡ false → b ≡ false
+second-off {b = b} on e = grind (arith, common_steps, cases_Bool b)
+
 pub cell-is : (w y x c : ℕ) → x < w → eqb (y * w + x) c ≡ (eqb (c / w) y && eqb (c % w) x)
 cell-is w y x c lt = grind (arith, common_steps, same-truth, eqb-true, div-mul-add, place-column, and_from, eq-eqb, and_parts, div-add-mod')
 

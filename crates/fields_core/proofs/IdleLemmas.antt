@@ -2,6 +2,7 @@
 use Rattle.fields_core.proofs.Common.{AllByRecursion, AreDifferent, AreIdle, ArePlanesAlive, AreVisited, Bool, Candidates, CountHouse, IsClosed, IsInside, IsLeast, Layers, List, [], after_house, after_houses, and_parts, any_below, any_below-here, any_below-none, any_below-some, ap, append_assoc, arith, by_fillings-monotone, by_fillings-settled, cases_Bool, cases_eq, cases_lt, common_steps, count_below, count_below-lt, count_house_of, count_puzzle, counts_between, eq-eqb, eqb, false, false_from_ne_true, fun_ext, further-none, get_or-append_seam, has, has_place, houses_below, inl, inr, le-ltb, length, length-append, list_any, list_any-append, lt-ltb, ltb, ne_eqb, no_count_house, not, not-true, or_cases, refl, strikes_at-inside, strikes_of, suc, sym, true, true≢false, zero, ℕ, ◌&&◌, ◌++◌, ◌+◌, ◌-◌, ◌<◌, ◌||◌, ◌∙◌, ◌∷◌, ◌≡◌, ◌≤◌, ◌⊎◌}
 use Rattle.fields_core.proofs.VisitLemmas.{IsFull, after-inside, below-rest, others-stay, sweep-broken, sweep-first, sweep-more, visited-left, visits-append, visits-inside}
 use Rattle.fields_core.proofs.HouseLemmas.{below-more}
+use Rattle.fields_core.proofs.CellLemmas.{first-off}
 
 -- Houses whose visits take nothing, which stay idle while others of their kind are visited, and boards that have changed far from them.
 -- a board between two that have a value in each cell
@@ -306,12 +307,7 @@ module _ {left rest : ℕ → Bool} {room least : ℕ} (is : IsLeast left room l
   rest-on k on = grind (arith, common_steps, and_parts, cases_lt, cases_eq, eq-eqb)
 
   pub rest-off : {k : ℕ} → least < k → rest k ≡ false → left k ≡ false
-  rest-off {k} high off =
-      let apart : eqb k least ≡ false = ne_eqb k least (λ e. absurd (omega (arith, e, high))) in
-      let kept : rest k ≡ (left k && not false) = without k ∙ rw apart refl in by (left k) (rest k) kept off
-    where
-      by : (a b : Bool) → b ≡ (a && not false) → b ≡ false → a ≡ false
-      by a b e off = grind (arith, common_steps, cases_Bool a, cases_Bool b)
+  rest-off {k} high off = first-off (ap not (ne_eqb k least (λ e. absurd (omega (arith, e, high))))) (sym (without k) ∙ off)
 
 -- places of a word behind one
 module _ (word first rest : ℕ → Bool) (line : ℕ) (first_is : (k : ℕ) → first k ≡ ltb k (line + 1)) (is : (k : ℕ) → rest k ≡ (word k && not (first k))) where
@@ -319,7 +315,4 @@ module _ (word first rest : ℕ → Bool) (line : ℕ) (first_is : (k : ℕ) →
   from-on k on = grind (arith, common_steps, and_parts, cases_lt, lt-ltb, not-true)
 
   pub from-off : {k : ℕ} → line < k → rest k ≡ false → word k ≡ false
-  from-off {k} high off = by (word k) (first k) (first_is k ∙ le-ltb k (line + 1) (omega (arith, high))) (sym (is k) ∙ off)
-    where
-      by : (a b : Bool) → b ≡ false → (a && not b) ≡ false → a ≡ false
-      by a b out e = grind (arith, common_steps, cases_Bool a, cases_Bool b)
+  from-off {k} high off = first-off (ap not (first_is k ∙ le-ltb k (line + 1) (omega (arith, high)))) (sym (is k) ∙ off)

@@ -6,6 +6,7 @@ use Rattle.fields_core.proofs.LightRuleLemmas.{light-counting}
 use Rattle.fields_core.proofs.BesideLemmas.{whole-cell}
 use Rattle.fields_core.proofs.PlaceLists.{filter-has}
 use Rattle.fields_core.proofs.TentTreeWords.{beside-has}
+use Rattle.std.proofs.Math.Bool.{and_assoc}
 
 -- ---- the house of a number is a house
 pub number-is : {p : Light} {c n : ℕ} → IsLight p → c < light_cells p → get_or p.cells c Black ≡ Numbered n
@@ -97,12 +98,9 @@ beside-word {n} {room} a both near word passes fits both_is near_is word_is k = 
 part-is : {n a d : ℕ} (line at k bits : ℕ) (cell : ℕ → ℕ) (passes : ℕ → Bool) → a < n → IsBeside n (λ k. passes (cell k)) a bits → (line ≡ at → cell k ≡ d)
     → ((eqb line at && next_to n a k) && passes d) ≡ (eqb line at && has_bit bits k)
 part-is {n} {a} {d} line at k bits cell passes lt is here = elim (cases_eq line at) [
-  | inl same ↦ rw (eq-eqb _ _ same, next-is k lt, is k, here same) (by _ (ltb k n) (passes d))
+  | inl same ↦ rw (eq-eqb _ _ same, next-is k lt, is k, here same) (and_assoc _ (ltb k n) (passes d))
   | inr ne ↦ rw (ne_eqb _ _ ne) refl
 ]
-  where
-    by : (a b c : Bool) → ((true && (a && b)) && c) ≡ (true && (a && (b && c)))
-    by a b c = grind (arith, common_steps, cases_Bool a, cases_Bool b)
 
 pub lies-both : (w y x row column d : ℕ) → lies_in_first w (both_pieces y x row column) 2 d
     ≡ ((eqb (d / w) y && has_bit row (d % w)) || (eqb (d % w) x && has_bit column (d / w)))

@@ -1,5 +1,5 @@
 -- Light Up: the rows of numbers and of white cells that wait.
-use Rattle.fields_core.proofs.Common.{AreColumnsParted, AreIdleBut, AreParted, ArePlanesAlive, Black, Bool, Candidates, Column, IsAway, IsLeast, IsLight, IsReach, IsRowOf, Layers, Light, LightCell, Line, Numbered, Row, Touched, White, [], after_houses, and_from, any_below, any_below-none, ap, arith, at_line, cases_Bool, cases_lt, clear, column_run, common_steps, div-mul-add, eqb, false, false_from_ne_true, get_or, has_bit, has_place, houses_below, inl, inr, is_numbered, joined_in_column, joined_in_row, le-ltb, light_cells, line_len, lines_beside, lt-ltb, ltb, max, min, not, number_house, number_of, numbers_of_row, place-append, place-column, place-filter, place-in, refl, row_run, seen_from, sym, true, true≢false, white, ℕ, ◌%◌, ◌&&◌, ◌*◌, ◌+◌, ◌/◌, ◌<◌, ◌∙◌, ◌≡◌, ◌≤◌, ◌⊎◌}
+use Rattle.fields_core.proofs.Common.{AreColumnsParted, AreIdleBut, AreParted, ArePlanesAlive, Bool, Candidates, Column, IsAway, IsLeast, IsLight, IsReach, IsRowOf, Layers, Light, Line, Row, Touched, ℕ, [], after_houses, and-false, and_from, any_below, any_below-none, ap, arith, at_line, cases_Bool, cases_lt, clear, common_steps, div-mul-add, eqb, false, false_from_ne_true, has_bit, has_place, houses_below, inl, inr, is_numbered, joined_in_column, joined_in_row, le-ltb, light_cells, line_len, lines_beside, lt-ltb, ltb, max, min, not, number_house, number_of, numbers_of_row, place-append, place-column, place-filter, place-in, refl, seen_from, sym, true, true≢false, white, ◌%◌, ◌&&◌, ◌*◌, ◌+◌, ◌/◌, ◌<◌, ◌∙◌, ◌≡◌, ◌≤◌, ◌⊎◌}
 use Rattle.fields_core.proofs.VisitLemmas.{below-rows}
 use Rattle.fields_core.proofs.CellLemmas.{has-at}
 use Rattle.fields_core.proofs.LightRuleLemmas.{column-run-joined, light-board, row-run-joined}
@@ -181,12 +181,9 @@ pub line-must : (planes : Layers) (line : Line) (k : ℕ) → number_of line < l
     → (at_line planes line 1 k ≡ true → k < line_len planes.size line)
     → (at_line planes line 1 k && not (at_line planes line 0 k)) ≡ (ltb k (line_len planes.size line) && not (at_line planes line 0 k))
 line-must planes line k line_in alive within = elim (cases_Bool (at_line planes line 0 k)) [
-  | inl zero ↦ rw zero (by (at_line planes line 1 k) (ltb k (line_len planes.size line)))
+  | inl zero ↦ rw (zero, and-false (at_line planes line 1 k), and-false (ltb k (line_len planes.size line))) refl
   | inr none ↦ rw none (elim (cases_lt k (line_len planes.size line)) [
     | inl lt ↦ rw (line-one planes line k line_in lt alive none, lt-ltb _ _ lt) refl
     | inr out ↦ rw (false_from_ne_true (at_line planes line 1 k) (λ on. absurd (omega (arith, out, within on))), le-ltb _ _ out) refl
   ])
 ]
-  where
-    by : (a b : Bool) → (a && not true) ≡ (b && not true)
-    by a b = grind (arith, common_steps, cases_Bool a, cases_Bool b)

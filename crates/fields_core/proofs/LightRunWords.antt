@@ -1,6 +1,6 @@
 -- Words of runs along a line, as they are written one after another.
-use Rattle.fields_core.proofs.Common.{AreFilled, AreWritten, Bool, Candidates, Extent, IsColumnOf, IsColumnRun, IsLeast, IsRowOf, IsRowRun, IsRunAt, Layers, Light, List, all_of, and-false, and_from, and_parts, any_below, any_below-none, ap, arith, bit_of, cases_Bool, cases_eq, cases_lt, clear, common_steps, div-mul-add, eq-eqb, eqb, false, false_from_ne_true, get_or-set_other, get_or-set_same, has, has_bit, inl, inr, joined_in_column, joined_in_row, le-ltb, length, length-map, length-set, light_cells, light_rules, lt-ltb, ltb, ltb-true, map, map-set, mul-le-mul_right, ne_eqb, not, not-true, place-column, place-in, refl, set, slice_index, start_of, subst, sym, true, true≢false, white, ℕ, ◌%◌, ◌&&◌, ◌*◌, ◌+◌, ◌-◌, ◌/◌, ◌<◌, ◌∙◌, ◌≡◌, ◌≢◌, ◌≤◌}
-use Rattle.fields_core.proofs.CellLemmas.{has-at, same-truth}
+use Rattle.fields_core.proofs.Common.{AreFilled, AreWritten, Bool, Candidates, Extent, IsColumnOf, IsColumnRun, IsLeast, IsRowOf, IsRowRun, IsRunAt, Layers, Light, List, ℕ, all_of, and-false, and-true, and_from, and_parts, any_below, any_below-none, ap, arith, bit_of, cases_Bool, cases_eq, cases_lt, clear, common_steps, div-mul-add, eq-eqb, eqb, false, false_from_ne_true, get_or-set_other, get_or-set_same, has, has_bit, inl, inr, joined_in_column, joined_in_row, le-ltb, length, length-map, length-set, light_cells, light_rules, lt-ltb, ltb, ltb-true, map, map-set, mul-le-mul_right, ne_eqb, not, not-false, not-true, place-column, place-in, refl, set, slice_index, start_of, subst, sym, true, true≢false, white, ◌%◌, ◌&&◌, ◌*◌, ◌+◌, ◌-◌, ◌/◌, ◌<◌, ◌∙◌, ◌≡◌, ◌≢◌, ◌≤◌}
+use Rattle.fields_core.proofs.CellLemmas.{has-at, same-truth, second-off}
 use Rattle.fields_core.proofs.LightHouseLaws.{clear-at, clear-from}
 use Rattle.fields_core.proofs.RunLemmas.{column-cell-joined, row-cell-joined}
 
@@ -51,18 +51,12 @@ pub record AreLeft (test : ℕ → Bool) (len at left : ℕ) : Type 0 where
 pub left-all : (test : ℕ → Bool) (len left : ℕ) → ((k : ℕ) → has_bit left k ≡ (ltb k len && not (test k))) → AreLeft test len 0 left
 left-all test len left told = record {
   before = λ j e. absurd (omega arith);
-  rest = λ k. told k ∙ rw (le-ltb k 0 (omega arith)) (by (ltb k len) (test k));
+  rest = λ k. told k ∙ rw (le-ltb k 0 (omega arith), and-true (ltb k len)) refl;
 }
-  where
-    by : (a b : Bool) → (a && not b) ≡ ((a && not false) && not b)
-    by a b = grind (arith, common_steps, cases_Bool a)
 
 module _ {test : ℕ → Bool} {len at left : ℕ} (are : AreLeft test len at left) where
   left-off : {i : ℕ} → at ≤ i → i < len → has_bit left i ≡ false → test i ≡ true
-  left-off {i} low high none = by (test i) (sym (are.rest i ∙ rw (lt-ltb _ _ high, le-ltb i at low) refl) ∙ none)
-    where
-      by : (a : Bool) → ((true && not false) && not a) ≡ false → a ≡ true
-      by a e = grind (arith, common_steps, cases_Bool a)
+  left-off {i} low high none = not-false _ (second-off (and_from _ _ (lt-ltb _ _ high) (ap not (le-ltb i at low))) (sym (are.rest i) ∙ none))
 
   pub run-last : {room : ℕ} → at ≤ len → len ≤ room → any_below (has_bit left) room ≡ false → IsRunFrom test len at len
   run-last {room} low fits none = record {
@@ -98,24 +92,15 @@ module _ {test : ℕ → Bool} {len at left : ℕ} (are : AreLeft test len at le
     left-next told = record {
       before = λ j e. let same : j ≡ least = omega arith in rw same run-least.1;
       rest = λ k. told k ∙ elim (cases_lt k least) [
-        | inl less ↦ rw (is.before k less, lt-ltb k (least + 1) (omega arith)) (none (ltb k len) (test k))
+        | inl less ↦ rw (is.before k less, lt-ltb k (least + 1) (omega arith)) (rw (and-false (ltb k len)) refl)
         | inr more ↦ elim (cases_eq k least) [
-          | inl same ↦ rw (eq-eqb _ _ same, lt-ltb k (least + 1) (omega arith)) (gone (has_bit left k) (ltb k len) (test k))
+          | inl same ↦ rw (eq-eqb _ _ same, lt-ltb k (least + 1) (omega arith)) (rw (and-false (has_bit left k), and-false (ltb k len)) refl)
           | inr other ↦
               let low = run-least.2.low in
-              rw (are.rest k, ne_eqb _ _ other, le-ltb k at (omega arith), le-ltb k (least + 1) (omega arith)) (stays (ltb k len) (test k))
+              rw (are.rest k, ne_eqb _ _ other, le-ltb k at (omega arith), le-ltb k (least + 1) (omega arith)) (and-true _)
         ]
       ];
     }
-      where
-        none : (a b : Bool) → false ≡ ((a && not true) && not b)
-        none a b = grind (arith, common_steps, cases_Bool a)
-
-        gone : (l a b : Bool) → (l && not true) ≡ ((a && not true) && not b)
-        gone l a b = grind (arith, common_steps, cases_Bool a, cases_Bool l)
-
-        stays : (a b : Bool) → (((a && not false) && not b) && not false) ≡ ((a && not false) && not b)
-        stays a b = grind (arith, common_steps, cases_Bool a, cases_Bool b)
 
 -- ---- the words of a line
 pub written-none : {test : ℕ → Bool} {len first stride : ℕ} {words : List ℕ} → AreWritten test len first stride 0 words words

@@ -1,9 +1,9 @@
 -- Light Up: words of the cells that a cell sees, and runs that are safe.
-use Rattle.fields_core.proofs.Common.{AreSafe, AreSafeInColumns, Bool, Candidates, IsColumnRun, IsLeast, IsRowOf, IsRowRun, Layers, Light, List, and_parts, any_below, any_below-none, any_below-some, ap, arith, bit_of, cases_Bool, cases_eq, common_steps, cond, count_below, count_below-few, count_below-lt, count_below-pos, div-mul-add, eq-eqb, eqb, eqb-true, false, get_or, get_or-set_other, get_or-set_same, has, has_bit, inl, inr, joined_in_column, joined_in_row, le-ltb, least_below, least_below-passes, length, length-map, light_cells, lt-ltb, ltb, ltb-true, map, map-set, mod-mul-add, not, not-true, or_cases, place-in, refl, set, slice_index, suc, sym, true, true≢false, white, zero, ℕ, ◌%◌, ◌&&◌, ◌*◌, ◌+◌, ◌<◌, ◌||◌, ◌∙◌, ◌≡◌, ◌≢◌, ◌≤◌}
+use Rattle.fields_core.proofs.Common.{AreSafe, AreSafeInColumns, Bool, Candidates, IsColumnRun, IsLeast, IsRowOf, IsRowRun, Layers, Light, List, ℕ, and-false, and_parts, any_below, any_below-none, any_below-some, ap, arith, bit_of, cases_Bool, cases_eq, common_steps, cond, count_below, count_below-few, count_below-lt, count_below-pos, div-mul-add, eq-eqb, eqb, eqb-true, false, get_or, get_or-set_other, get_or-set_same, has, has_bit, inl, inr, joined_in_column, joined_in_row, le-ltb, least_below, least_below-passes, length, length-map, light_cells, lt-ltb, ltb, ltb-true, map, map-set, mod-mul-add, not, not-false, not-true, or_cases, place-in, refl, set, slice_index, suc, sym, true, true≢false, white, zero, ◌%◌, ◌&&◌, ◌*◌, ◌+◌, ◌<◌, ◌||◌, ◌∙◌, ◌≡◌, ◌≢◌, ◌≤◌}
 use Rattle.fields_core.proofs.PlaceLists.{num}
 use Rattle.fields_core.proofs.VisitLemmas.{IsFull}
 use Rattle.fields_core.proofs.LightHouseLaws.{column-both, column-next, column-self, row-both}
-use Rattle.fields_core.proofs.CellLemmas.{has-at, row-read}
+use Rattle.fields_core.proofs.CellLemmas.{has-at, row-read, second-off}
 use Rattle.fields_core.proofs.LightRunOrder.{column-white-start}
 
 -- Words of the cells that a cell of Light Up sees.
@@ -24,19 +24,13 @@ two-but {passes} left {n} {least} is rest = elim (cases_Bool (any_below left n))
   | inl on ↦
       let k = any_below-some left n on in let more = count_below-pos left n k.0 k.1 k.2 in
       let less = count_below-lt left passes n least (λ v _ there. (and_parts _ _ (sym (rest v) ∙ there)).0) is.within
-      (rest least ∙ rw (eq-eqb least least refl) (none (passes least))) is.has in
+      (rest least ∙ rw (eq-eqb least least refl) (and-false (passes least))) is.has in
       on ∙ sym (lt-ltb 1 (count_below passes n) (omega arith))
   | inr off ↦
-      let one : (k : ℕ) → k < n → passes k ≡ true → k ≡ least = λ k lt on. eqb-true _ _ (only (passes k) (eqb k least) on (sym (rest k) ∙ any_below-none left n off k lt)) in
+      let one : (k : ℕ) → k < n → passes k ≡ true → k ≡ least = λ k lt on. eqb-true _ _ (not-false _ (second-off on (sym (rest k) ∙ any_below-none left n off k lt))) in
       let few = count_below-few passes n (λ j k lj lk on_j on_k. one j lj on_j ∙ sym (one k lk on_k)) in
       off ∙ sym (le-ltb _ _ few)
 ]
-  where
-    none : (a : Bool) → (a && not true) ≡ false
-    none a = grind (arith, common_steps, cases_Bool a)
-
-    only : (a b : Bool) → a ≡ true → (a && not b) ≡ false → b ≡ true
-    only a b on off = grind (arith, common_steps, cases_Bool b)
 
 pub two-left : (passes left : ℕ → Bool) (n : ℕ) → any_below passes n ≡ true
     → ((least k : ℕ) → IsLeast passes n least → left k ≡ (passes k && not (eqb k least)))

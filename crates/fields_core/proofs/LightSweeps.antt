@@ -1,5 +1,5 @@
 -- Light Up: what waits, and sweeps of its houses on planes.
-use Rattle.fields_core.proofs.Common.{AllByRecursion, AreIdle, AreIdleBut, AreLightsReady, AreLinesOf, AreLinesRested, AreLinesWoken, ArePlanesAlive, ArePlanesOf, AreSafe, AreVisited, Black, Bool, Candidates, CountHouse, HasBoard, IsAway, IsClosed, IsClosedAround, IsFurther, IsInside, IsLight, IsLostIn, IsReach, IsSweep, Layers, Light, LightCell, List, Numbered, RunKind, Touched, White, ℕ, after_houses, any_below, any_below-none, ap, append_assoc, arith, back_at, cases_Bool, cases_eq, column_house, column_run, common_steps, div-mul-add, eqb, eqb-true, exactly, false, false_from_ne_true, filter, get_or, has, has_bit, has_place, houses_below, inl, inr, joined_in_column, joined_in_row, length, light_cells, light_counts, light_houses, light_rules, lit_house, lits_of_row, mod-lt, ne_eqb, not, number_house, numbers_of_row, one_at_least, or_left, or_parts, or_right, place-back, place-column, place-filter, place-front, place-in, place-kept, refl, row_house, row_run, row_runs_of_row, run_houses, run_lines, seen_from, solves_lights, steps, suc, sym, true, true≢false, waiting_runs, white, white_houses, zero, ◌%◌, ◌&&◌, ◌*◌, ◌++◌, ◌+◌, ◌/◌, ◌<◌, ◌||◌, ◌∙◌, ◌≡◌, ◌≤◌, ◌⊎◌}
+use Rattle.fields_core.proofs.Common.{AllByRecursion, AreIdle, AreIdleBut, AreLightsReady, AreLinesOf, AreLinesRested, AreLinesWoken, ArePlanesAlive, ArePlanesOf, AreSafe, AreVisited, Black, Bool, Candidates, CountHouse, HasBoard, IsAway, IsClosed, IsClosedAround, IsFurther, IsInside, IsLight, IsLostIn, IsReach, IsSweep, Layers, Light, LightCell, List, Numbered, RunKind, Touched, White, ℕ, after_houses, any_below, any_below-none, ap, append_assoc, arith, back_at, cases_Bool, cases_eq, column_house, common_steps, div-mul-add, eqb, eqb-true, exactly, false, false_from_ne_true, filter, get_or, has, has_bit, has_place, houses_below, inl, inr, joined_in_column, joined_in_row, length, light_cells, light_counts, light_houses, light_rules, lit_house, lits_of_row, mod-lt, ne_eqb, not, number_house, numbers_of_row, one_at_least, or_left, or_parts, or_right, place-back, place-column, place-filter, place-front, place-in, place-kept, refl, row_house, row_run, row_runs_of_row, run_houses, run_lines, seen_from, solves_lights, steps, suc, sym, true, true≢false, waiting_runs, white, white_houses, zero, ◌%◌, ◌&&◌, ◌*◌, ◌++◌, ◌+◌, ◌/◌, ◌<◌, ◌||◌, ◌∙◌, ◌≡◌, ◌≤◌, ◌⊎◌}
 use Rattle.fields_core.specs.declared.planes.light_up.waits.LineWaits.{LineWaits}
 use Rattle.fields_core.specs.declared.planes.light_up.waits.RunKind.TheVariants.{Columns, Rows}
 unfoldable use Rattle.fields_core.proofs.IdleLemmas.{any_has}
@@ -17,6 +17,7 @@ use Rattle.fields_core.proofs.PartLemmas.{value-in}
 use Rattle.fields_core.specs.declared.planes.light_up.light_notes.LightNotes.{LightNotes}
 use Rattle.fields_core.proofs.HouseOrder.{IsSingle, alls-quiet, quiet-done, quiet-one, quiet-stays, singles-quiet}
 use Rattle.fields_core.proofs.HouseLemmas.{all-houses, all-if}
+use Rattle.fields_core.proofs.CellLemmas.{first-off}
 
 -- What waits of Light Up: where numbers and runs lie, what stays idle, white cells too, and what is idle where a closing begins.
 module _ (p : Light) (lawful : IsLight p) (c : ℕ) (is_white : white p c ≡ true) where
@@ -221,11 +222,8 @@ module _ {W : Type 0} (bits : W → ℕ) (p : Light) (before now : LineWaits W) 
   numbers-settled : (k : ℕ) → k < p.size.h → has_bit (bits now.numbers) k ≡ false → AreIdle (numbers_of_row p k) K
   numbers-settled k lt off = elim (cases_Bool (eqb k y)) [
     | inl own ↦ rw (eqb-true _ _ own) idle
-    | inr other ↦ rested.numbers k lt (by (has_bit (bits before.numbers) k) (sym (numbers k ∙ rw other refl) ∙ off))
+    | inr other ↦ rested.numbers k lt (first-off (ap not other) (sym (numbers k) ∙ off))
   ]
-    where
-      by : (a : Bool) → (a && not false) ≡ false → a ≡ false
-      by a e = grind (arith, common_steps, cases_Bool a)
 
   pub last-settled : p.size.h ≤ room → any_below (has_bit (bits now.numbers)) room ≡ false → AreLinesRested bits p now K
   last-settled low none = record {

@@ -1,5 +1,5 @@
 -- Where a search of count houses starts, and the first test that fails.
-use Rattle.fields_core.proofs.Common.{AllByRecursion, AreRight, Bool, Candidates, IsFirstFailed, IsMade, IsNext, Kind, Layout, List, None, Option, Row, SameShape, Some, all_of, and-true, ap, arith, cases_Bool, cases_eq, cases_lt, common_steps, covers, crosses, div-add-mod', div-lt_iff_lt-mul, eq-eqb, eqb, first_in, fun_ext, has_bit, inl, inr, le-ltb, lt-ltb, ltb, mod-lt, ne_eqb, not, not-false, not-true, or-false, or-true, refl, start_of, tests, true, without, without_taking, ℕ, ◌%◌, ◌&&◌, ◌*◌, ◌++◌, ◌+◌, ◌/◌, ◌<◌, ◌||◌, ◌↔◌, ◌∙◌, ◌∷◌, ◌≡◌, ◌≤◌}
+use Rattle.fields_core.proofs.Common.{AllByRecursion, AreRight, Bool, Candidates, IsFirstFailed, IsMade, IsNext, Kind, Layout, List, None, Option, Row, SameShape, Some, all_of, and-true, ap, arith, cases_Bool, cases_eq, cases_lt, common_steps, covers, crosses, div-add-mod', div-lt_iff_lt-mul, eq-eqb, eqb, first_in, fun_ext, has_bit, le-ltb, lt-ltb, ltb, mod-lt, ne_eqb, not, not-false, not-true, or-false, or-true, start_of, tests, true, without, without_taking, ℕ, ◌%◌, ◌&&◌, ◌*◌, ◌++◌, ◌+◌, ◌/◌, ◌<◌, ◌||◌, ◌∙◌, ◌∷◌, ◌≡◌, ◌≤◌}
 
 -- The board that a search of count houses starts from.
 -- ---- the start, with the cells below a place blocked

@@ -1,5 +1,5 @@
 -- The squares of two rows of Tents, and visits of them.
-use Rattle.fields_core.proofs.Common.{AllByRecursion, ArePlanesAlive, AreVisited, Bool, Candidates, CountHouse, Extent, IsFurther, IsHouse, IsTents, Layers, Row, Tents, [], and-false, and_from, and_parts, any_below, any_below-here, any_below-none, any_below-some, ap, arith, bit_of, cases_Bool, cases_lt, common_steps, cond, count_by, covers, crosses, div-mul-add, eq-eqb, eqb, eqb-true, false, false≢true, fun_ext, has, has_bit, has_place, houses_below, inl, inr, le-ltb, lies_in, lies_in_first, list_any, lt-ltb, ltb, ltb-true, mod-lt, mul-le-mul_right, not, not-false, not-true, one_at_most, or_cases, or_left, or_parts, or_right, place-column, refl, square_house, squares_of_row, subst, suc, sym, tent_cells, true, two_rows, without_taking, without_value, zero, ℕ, ◌%◌, ◌&&◌, ◌*◌, ◌+◌, ◌-◌, ◌/◌, ◌<◌, ◌||◌, ◌∙◌, ◌∷◌, ◌≡◌, ◌≢◌, ◌≤◌, ◌⊎◌}
+use Rattle.fields_core.proofs.Common.{AllByRecursion, ArePlanesAlive, AreVisited, Bool, Candidates, CountHouse, Extent, IsFurther, IsHouse, IsTents, Layers, Row, Tents, [], and-false, and_from, and_parts, any_below, any_below-here, any_below-none, any_below-some, ap, arith, bit_of, cases_Bool, cases_lt, common_steps, count_by, covers, crosses, div-mul-add, eq-eqb, eqb, eqb-true, false, false≢true, fun_ext, has, has_bit, has_place, houses_below, inl, inr, le-ltb, lies_in, lies_in_first, list_any, lt-ltb, ltb, ltb-true, mod-lt, mul-le-mul_right, not, not-false, not-true, one_at_most, or_cases, or_left, or_parts, or_right, place-column, refl, square_house, squares_of_row, suc, sym, tent_cells, true, two_rows, without_taking, without_value, zero, ℕ, ◌%◌, ◌&&◌, ◌*◌, ◌+◌, ◌-◌, ◌/◌, ◌<◌, ◌||◌, ◌∙◌, ◌∷◌, ◌≡◌, ◌≢◌, ◌≤◌, ◌⊎◌}
 unfoldable use Rattle.fields_core.proofs.VisitLemmas.{is_met, without_met}
 use Rattle.fields_core.proofs.CellLemmas.{cell-is, same-truth}
 use Rattle.fields_core.proofs.PlaceLists.{count-cons}

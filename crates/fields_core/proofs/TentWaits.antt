@@ -15,7 +15,7 @@ use Rattle.fields_core.proofs.PlaneSweeps.{around-inside, around-lost, back-whol
 unfoldable use Rattle.fields_core.proofs.IdleLemmas.{any_has}
 use Rattle.engine_core.proofs.JudgeLemmas.{scope_le-longest}
 use Rattle.fields_core.specs.declared.planes.tents.tent_notes.TentNotes.{TentNotes}
-use Rattle.fields_core.proofs.CellLemmas.{place-on}
+use Rattle.fields_core.proofs.CellLemmas.{first-off, place-on}
 
 -- What waits of Tents: where its houses lie, what stays idle while others of a kind are visited, and what is idle where a closing begins.
 -- ---- where houses lie
@@ -261,10 +261,7 @@ pub kind-first : {W : Type 0} (bits : W → ℕ) (p : Tents) (kind : Kind) (wait
     → ArePassed (kind_houses p kind) (kind_lines p kind) left from from
 kind-first bits p kind waits alive rested is = passed-first (kind_houses p kind) alive
     (λ k on. ltb-true _ _ (and_parts _ _ (sym (is k) ∙ on)).1)
-    (λ k lt off. rested kind k lt (by (has_bit (waiting bits waits kind) k) (rw (lt-ltb _ _ lt) at (sym (is k) ∙ off))))
-  where
-    by : (a : Bool) → (a && true) ≡ false → a ≡ false
-    by a e = grind (arith, common_steps, cases_Bool a)
+    (λ k lt off. rested kind k lt (first-off (lt-ltb _ _ lt) (sym (is k) ∙ off)))
 
 -- Tents on planes: the sides that the memory is for, and what a closing asks of planes.
 -- ---- the sides that the memory is for

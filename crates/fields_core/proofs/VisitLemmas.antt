@@ -3,7 +3,7 @@ use Rattle.fields_core.proofs.Common.{AllByRecursion, AreHouses, AreMet, ArePlan
 use Rattle.engine_core.specs.Closing.{replay}
 use Rattle.fields_core.proofs.HouseLemmas.{below-more}
 use Rattle.fields_core.proofs.CountKept.{after-at, has-value, off-scope}
-use Rattle.fields_core.proofs.PlaceLists.{count-cons, count-none, count-some, num, some-counted}
+use Rattle.fields_core.proofs.PlaceLists.{count-cons, count-none, count-some, some-counted}
 
 -- Visits of count houses, one after another, and which houses are among those of a puzzle.
 -- ---- the board after visits
@@ -259,10 +259,7 @@ after-met {cells} {house} {K} c v full one = elim (cases_Bool (K c v)) [
 -- no cell loses 0
 pub zeros-stay : {cells : ℕ} {house : CountHouse} {K : Candidates} → IsFull cells K
     → IsOneAtMost cells (zeros_of K) house → zeros_of (after_house house K) ≡ zeros_of K
-zeros-stay {house} {K} full one = fun_ext λ d. after-met d 0 full one ∙ by (K d 0)
-  where
-    by : (a : Bool) → (a && not false) ≡ a
-    by a = grind (arith, common_steps, cases_Bool a)
+zeros-stay {house} {K} full one = fun_ext λ d. after-met d 0 full one ∙ and-true (K d 0)
 
 full-after : {cells : ℕ} {house : CountHouse} {K : Candidates} → IsFull cells K
     → IsOneAtMost cells (zeros_of K) house → IsFull cells (after_house house K)
