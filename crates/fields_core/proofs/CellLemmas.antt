@@ -77,8 +77,7 @@ pub count-apart : (a b t : ℕ → Bool) (n : ℕ) → ((c : ℕ) → c < n → 
     (λ c. b c && t c) n
 unfolding count_below
 count-apart a b t zero apart = refl
-count-apart a b t (suc n) apart =
-    grind (arith, common_steps, cases_Bool (a n), cases_Bool (b n), cases_Bool (t n), count-apart a b t n (λ c lt. apart c (omega arith)), apart n (omega arith))
+count-apart a b t (suc n) apart = grind (arith, common_steps, cases_Bool, count-apart a b t n (λ c lt. apart c (omega arith)))
 
 count-past : (p : ℕ → Bool) {n : ℕ} (room : ℕ) → n ≤ room → ((k : ℕ) → n ≤ k → p k ≡ false) → count_below p room ≡ count_below p n
 unfolding count_below
@@ -143,8 +142,7 @@ pub crosses-both : (p : Layers) (line : Line) (bits there v c : ℕ) → v < 2 �
     → crosses line there (c / p.size.w) (c % p.size.w) ≡ (crosses line bits (c / p.size.w) (c % p.size.w) && has p c v)
 unfolding crosses has
 crosses-both p (Row n) bits there v c lt is = grind (arith, common_steps, cases_Bool, lt-ltb v 2, cases_eq (c / p.size.w) n, eq-eqb, ne_eqb, is (c % p.size.w))
-crosses-both p (Column n) bits there v c lt is =
-    grind (arith, common_steps, cases_Bool, lt-ltb v 2, cases_eq (c % p.size.w) n, eq-eqb, ne_eqb, is (c / p.size.w))
+crosses-both p (Column n) bits there v c lt is = grind (arith, common_steps, cases_Bool, lt-ltb, cases_eq, eq-eqb, ne_eqb)
 
 -- ---- the places of a list
 pub place-count : (test : ℕ → Bool) (places : List ℕ) (cells : ℕ) → AreDistinct places → ((c : ℕ) → has_place places c ≡ true → c < cells)
@@ -190,5 +188,4 @@ row-read bits words y word lt read = get_or-map bits words y word 0 lt ∙ ap bi
 -- where each row has a word
 pub rows-read : {W : Type 0} (bits : W → ℕ) (words : List W) {size : Extent} {passes : ℕ → Bool} {y : ℕ} {word : W} → y < size.h → AreRowsOf size passes (map bits words)
     → word ≡ get_or words y word → IsRowOf size.w passes y (bits word)
-rows-read bits words {y} {word} lt are read =
-    rw (row-read bits words y word (omega (arith, lt, are.long, length-map words bits)) read) at (are.each y lt)
+rows-read bits words {y} {word} lt are read = grind (arith, common_steps, row-read, length-map)

@@ -231,14 +231,7 @@ module _ (cells : ℕ) (house : CountHouse) (K : Candidates) (t : Tally) (is : I
       rw (none, le-ltb _ _ b.0, le-ltb _ _ w.0, le-ltb _ _ w.1, w.2) refl
 
   stays-shown : {k v : ℕ} → k < length house.places → v < 2 → K (at k) v ≡ true → stays t (bounds_of house) (is_open K (at k)) v ≡ true → Shown k v
-  stays-shown {k} {v} lt low on stay =
-      let both = and_parts _ _ stay in let a = or_parts _ _ (not-true _ both.0) in
-      let order = or_parts _ _ a.1 in let ends = or_parts _ _ order.1 in
-      let none : t.empty ≡ 0 = let e = ltb-false 0 t.empty a.0 in omega arith in
-      let w = room v (K (at k) 0) (K (at k) 1) low (by-value K (at k) low on)
-      (ltb-false t.may house.least ends.0) (ltb-false house.most t.must ends.1) (not-true _ both.1) in
-      bounds-shown K house.places k v is.different lt low on (full none) (ltb-false house.most house.least order.0)
-      (omega (arith, w.0, tally.may_is)) (omega (arith, w.1, tally.must_is))
+  stays-shown {k} {v} lt low on stay = grind (arith, common_steps, and_parts, or_parts, not-true, ltb-false, by-value, bounds-shown)
 
   pub stays-at : {k v : ℕ} → k < length house.places → v < 2 → (K (at k) v && not (struck k v)) ≡ (K (at k) v && stays t (bounds_of house) (is_open K (at k)) v)
   stays-at {k} {v} lt low = elim (cases_Bool (K (at k) v)) [
@@ -303,8 +296,7 @@ module _ {house : CountHouse} (b : Layout) (is : IsHouse (cells_of b) house) (tw
 
   pub partly-all : {n : ℕ} {L : Candidates} → IsPartly house n (has b) L → length house.places ≤ n → L ≡ after_house house (has b)
   unfolding after_house
-  partly-all {n} partly ge = fun_ext λ c. fun_ext λ v.
-      rw (take_all n house.places ge) at (partly.left c v) ∙ ap (λ off. has b c v && not off) (grind (arith, common_steps, cases_Bool, off-scope))
+  partly-all {n} partly ge = grind (arith, common_steps, cases_Bool, off-scope)
 
   module _ {t : Tally} (tally : IsTally (has b) house.places t) where
     -- a house strikes nothing where all would be kept of a cell with both values, if there may be one

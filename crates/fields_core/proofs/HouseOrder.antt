@@ -147,8 +147,7 @@ module _ (some all : List CountHouse) (from to : Layers) (fills : Bool) (alive :
       }
     where
       moved : without_met some (has from) ≡ without_met all (has from)
-      moved = fun_ext λ c. fun_ext λ v. ap (λ (b : Bool). has from c v && not (eqb v 1 && (has from c 0 && b)))
-          (same (λ house. is_met (zeros_of (has from)) house c))
+      moved = grind (arith, common_steps)
 
       living : (c : ℕ) → (has from c 0 ≡ true) ⊎ (has from c 1 ≡ true) → ((v : ℕ) → v < 2 → without_met some (has from) c v ≡ false) → ⊥
       living c value off = by (list_any (λ house. is_met (zeros_of (has from)) house c) some) (off 0 (omega arith)) (off 1 (omega arith)) value

@@ -21,10 +21,7 @@ told-if false house e = absurd (omega arith)
 -- its place lies in the grid
 pub place-tells : (p : Light) (kind : LightHouse) (c : ℕ) → IsLight p → length (light_house p kind c) ≡ 1 → c < light_cells p
 unfolding begins_row_run begins_column_run
-place-tells p Number c lawful e = elim (cases_lt c (length p.cells)) [
-  | inl lt ↦ let long = lawful.count in omega arith
-  | inr past ↦ absurd (omega (arith, rw (get_or_past p.cells c Black past) at e))
-]
+place-tells p Number c lawful e = grind (arith, common_steps, cases_lt)
 place-tells p Row c lawful e = white-in p c lawful.count (and_parts _ _ (told-if (begins_row_run p c) _ e)).0
 place-tells p Column c lawful e = white-in p c lawful.count (and_parts _ _ (told-if (begins_column_run p c) _ e)).0
 place-tells p Lit c lawful e = white-in p c lawful.count (told-if (white p c) _ e)
@@ -80,21 +77,16 @@ calls p name = asks (get_or p.cells name.place Black) && eqb name.cells 0
 -- only a number tells the house of a number other than 0 with no cell
 told-asks : (p : Light) (kind : LightHouse) (c n : ℕ) (places : List ℕ) → light_house p kind c ≡ exactly n places ∷ [] → 0 < n → length places ≡ 0
     → asks (get_or p.cells c Black) ≡ true
-told-asks p Number c n places e some none =
-    let w = number-one (get_or p.cells c Black) _ e in
-    let same : w.0 ≡ n = ap (λ (h : CountHouse). h.least) w.2 in rw (w.1, same) (lt-ltb _ _ some)
+told-asks p Number c n places e some none = grind (arith, common_steps, number-one, lt-ltb)
 told-asks p Row c n places e some none = absurd (omega (arith, ap (λ (h : CountHouse). h.least) (told-one (begins_row_run p c) _ e).1))
 told-asks p Column c n places e some none = absurd (omega (arith, ap (λ (h : CountHouse). h.least) (told-one (begins_column_run p c) _ e).1))
-told-asks p Lit c n places e some none =
-    let h = (told-one (white p c) _ e).1 in
-    absurd (omega (arith, ap (λ (h : CountHouse). h.most) h, ap (λ (h : CountHouse). length h.places) h))
+told-asks p Lit c n places e some none = grind (arith, common_steps, told-one)
 
 -- a name that asks for what no grid has is that of a lonely number
 calls-lonely : (p : Light) (kind : LightHouse) (c : ℕ) (house : CountHouse) → light_house p kind c ≡ house ∷ [] → length house.places ≡ 0
     → asks (get_or p.cells c Black) ≡ true → lonely p c ≡ true
 unfolding begins_row_run begins_column_run
-calls-lonely p Number c house e none on =
-    let w = number-one (get_or p.cells c Black) _ e in rw on (eq-eqb _ _ (ap (λ (h : CountHouse). length h.places) w.2 ∙ none))
+calls-lonely p Number c house e none on = grind (arith, common_steps, number-one, eq-eqb)
 calls-lonely p Row c house e none on = absurd (asks-black p c on (and_parts _ _ (told-one (begins_row_run p c) _ e).0).0)
 calls-lonely p Column c house e none on = absurd (asks-black p c on (and_parts _ _ (told-one (begins_column_run p c) _ e).0).0)
 calls-lonely p Lit c house e none on = absurd (asks-black p c on (told-one (white p c) _ e).0)
@@ -108,8 +100,7 @@ number-few (Numbered n) places = omega arith
 numbers-few : (p : Light) (n : ℕ) → length (houses_below (number_house p) n) ≤ n
 unfolding houses_below
 numbers-few p zero = omega arith
-numbers-few p (suc n) =
-    omega (arith, numbers-few p n, length-append (houses_below (number_house p) n) (number_house p n), number-few (get_or p.cells n Black) (filter (white p) (steps p.size n 4)))
+numbers-few p (suc n) = grind (arith, common_steps, length-append, number-few, numbers-few p n)
 
 within-front : (front back : List CountHouse) {k : ℕ} → k < length front → k < length (front ++ back)
 within-front front back lt = omega (arith, length-append front back)

@@ -95,8 +95,7 @@ module _ {p : Light} {y x row_bits column_bits others : ℕ} {from : Layers} {ro
 
   -- a white cell has itself in its run, a black one has no run
   white-run : any_below (has_bit row_bits) room ≡ true → white p cell ≡ true
-  white-run on =
-      let k = any_below-some (has_bit row_bits) room on in row-white-start p cell _ (and_parts _ _ (sym (s.row_is k.0) ∙ k.2)).1
+  white-run on = grind (arith, common_steps, any_below-some, row-white-start, and_parts)
 
   pub black-visited : any_below (has_bit row_bits) room ≡ false → AreVisited (lit_house p cell) from from true
   black-visited none = rw black (visited-none s.alive)

@@ -20,10 +20,7 @@ number-is {p} {c} {n} lawful lt e =
 pub columns-more : {W : Type 0} (bits : W → ℕ) (words : List W) (n : ℕ) (size : Extent) (passes : ℕ → Bool) (word : W) → n < length words
     → ((x : ℕ) → x < n → IsColumnOf size passes x (slice_index (map bits words) x)) → IsColumnOf size passes n (bits word)
     → (x : ℕ) → x < n + 1 → IsColumnOf size passes x (slice_index (map bits (set words n word)) x)
-columns-more bits words n size passes word lt written is x less y = rw (map-set bits words n word) (elim (cases_eq x n) [
-  | inl e ↦ rw (e, get_or-set_same (map bits words) n (bits word) 0 (omega (arith, lt, length-map words bits))) (is y)
-  | inr ne ↦ rw (get_or-set_other (map bits words) n x (bits word) 0 ne) (written x (omega arith) y)
-])
+columns-more bits words n size passes word lt written is x less y = grind (arith, common_steps, map-set, cases_eq, get_or-set_same, length-map, get_or-set_other)
 
 -- ---- the cells beside a cell, by row and column
 -- the number before one and the number after it
@@ -89,18 +86,12 @@ pub beside-word : {n room : ℕ} (a both near word : ℕ) (passes : ℕ → Bool
     → ((k : ℕ) → has_bit both k ≡ (has_bit near k && has_bit word k))
     → ((k : ℕ) → k < room → has_bit near k ≡ (eqb k (a + 1) || eqb a (k + 1)))
     → ((k : ℕ) → has_bit word k ≡ (ltb k n && passes k)) → IsBeside n passes a both
-beside-word {n} {room} a both near word passes fits both_is near_is word_is k = both_is k ∙ elim (cases_lt k room) [
-  | inl less ↦ rw (near_is k less, word_is k) refl
-  | inr high ↦ rw (word_is k, le-ltb k n (omega arith), and-false (has_bit near k), and-false (eqb k (a + 1) || eqb a (k + 1))) refl
-]
+beside-word {n} {room} a both near word passes fits both_is near_is word_is k = grind (arith, common_steps, cases_lt, le-ltb, and-false)
 
 -- of a line those of the cells beside one that pass
 part-is : {n a d : ℕ} (line at k bits : ℕ) (cell : ℕ → ℕ) (passes : ℕ → Bool) → a < n → IsBeside n (λ k. passes (cell k)) a bits → (line ≡ at → cell k ≡ d)
     → ((eqb line at && next_to n a k) && passes d) ≡ (eqb line at && has_bit bits k)
-part-is {n} {a} {d} line at k bits cell passes lt is here = elim (cases_eq line at) [
-  | inl same ↦ rw (eq-eqb _ _ same, next-is k lt, is k, here same) (and_assoc _ (ltb k n) (passes d))
-  | inr ne ↦ rw (ne_eqb _ _ ne) refl
-]
+part-is {n} {a} {d} line at k bits cell passes lt is here = grind (arith, common_steps, cases_eq, eq-eqb, next-is, ne_eqb)
 
 pub lies-both : (w y x row column d : ℕ) → lies_in_first w (both_pieces y x row column) 2 d
     ≡ ((eqb (d / w) y && has_bit row (d % w)) || (eqb (d % w) x && has_bit column (d / w)))

@@ -319,12 +319,7 @@ module _ (p : Light) (g : List ℕ) where
 
     number-made : IsMade (FailsLight p g) number
     unfolding number_right
-    number-made = record { failed = λ c lt off. by c _ off refl; held = λ c lt on (n, e, other). other (number-rule n on e) }
-      where
-        by : (c : ℕ) (cell : LightCell) → number_is cell (bulbs_beside p g c) ≡ false → get_or p.cells c Black ≡ cell → FailsLight p g (fault.Number c)
-        by c White off e = absurd (true≢false off)
-        by c Black off e = absurd (true≢false off)
-        by c (Numbered n) off e = (n, e, λ same. true≢false (sym (eq-eqb _ _ same) ∙ off))
+    number-made = grind (arith, common_steps, number-rule, eq-eqb)
 
     seen-made : IsMade (FailsLight p g) seen
     unfolding bulb_right

@@ -16,14 +16,7 @@ pub record AreAroundDone (run : ℕ → ℕ) (room marked rest bits : ℕ) : Typ
       → has_bit (run j) k ≡ false
 
 pub around-none : (run : ℕ → ℕ) (room marked bits : ℕ) → ((k : ℕ) → has_bit bits k ≡ false) → AreAroundDone run room marked marked bits
-around-none run room marked bits none = record {
-  inside = λ k on. on;
-  lower = λ j k on off there. absurd (true≢false (sym on ∙ off));
-  is = λ k. none k ∙ sym (false_from_ne_true _ (λ on.
-      let w = any_below-some (λ j. (has_bit marked j && not (has_bit marked j)) && has_bit (run j) k) room on in
-      let both = and_parts _ _ (and_parts _ _ w.2).0 in true≢false (sym both.0 ∙ not-true _ both.1)));
-  apart = λ j k less on off there. absurd (true≢false (sym on ∙ off));
-}
+around-none run room marked bits none = grind (arith, common_steps, false_from_ne_true, any_below-some, and_parts, not-true)
 
 module _ (run : ℕ → ℕ) (room marked rest bits at later more : ℕ) (done : AreAroundDone run room marked rest bits)
     (least : IsLeast (has_bit rest) room at)
@@ -32,20 +25,7 @@ module _ (run : ℕ → ℕ) (room marked rest bits at later more : ℕ) (done :
   -- another marked number in its run
   pub around-clash : (both : ℕ) → ((k : ℕ) → has_bit both k ≡ (has_bit later k && has_bit (run at) k)) → any_below (has_bit both) room ≡ true
       → IsClash run marked
-  around-clash both both_is some =
-      let w = any_below-some (has_bit both) room some in let parts = and_parts _ _ (sym (both_is w.0) ∙ w.2) in
-      let there = and_parts _ _ (sym (later_is w.0) ∙ parts.0) in
-      record {
-        one = at;
-        other = w.0;
-        after = after w.0 there.0 (not-true _ there.1);
-        one_marked = done.inside at least.has;
-        other_marked = done.inside w.0 there.0;
-        same = parts.1;
-      }
-    where
-      after : (k : ℕ) → has_bit rest k ≡ true → eqb k at ≡ false → at < k
-      after k on ne = grind (arith, common_steps, cases_lt, cases_eq, eq-eqb)
+  around-clash both both_is some = grind (arith, common_steps, any_below-some, and_parts, not-true, cases_lt, cases_eq, eq-eqb)
 
   pub around-more : (both : ℕ) → ((k : ℕ) → has_bit both k ≡ (has_bit later k && has_bit (run at) k)) → any_below (has_bit both) room ≡ false
       → ((k : ℕ) → has_bit more k ≡ (has_bit bits k || has_bit (run at) k)) → AreAroundDone run room marked later more

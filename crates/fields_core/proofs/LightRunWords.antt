@@ -49,10 +49,7 @@ pub record AreLeft (test : ℕ → Bool) (len at left : ℕ) : Type 0 where
   pub rest : (k : ℕ) → has_bit left k ≡ ((ltb k len && not (ltb k at)) && not (test k))
 
 pub left-all : (test : ℕ → Bool) (len left : ℕ) → ((k : ℕ) → has_bit left k ≡ (ltb k len && not (test k))) → AreLeft test len 0 left
-left-all test len left told = record {
-  before = λ j e. absurd (omega arith);
-  rest = λ k. told k ∙ rw (le-ltb k 0 (omega arith), and-true (ltb k len)) refl;
-}
+left-all test len left told = grind (arith, common_steps, le-ltb, and-true)
 
 module _ {test : ℕ → Bool} {len at left : ℕ} (are : AreLeft test len at left) where
   left-off : {i : ℕ} → at ≤ i → i < len → has_bit left i ≡ false → test i ≡ true
@@ -69,38 +66,10 @@ module _ {test : ℕ → Bool} {len at left : ℕ} (are : AreLeft test len at le
 
   module _ {room least : ℕ} (is : IsLeast (has_bit left) room least) where
     pub run-least : (least < len) × (test least ≡ false) × IsRunFrom test len at least
-    run-least =
-        let there = and_parts _ _ (sym (are.rest least) ∙ is.has) in
-        let inside = and_parts _ _ there.0 in let high : least < len = ltb-true _ _ inside.0 in
-        let low : at ≤ least = (elim (cases_lt least at) [
-          | inl less ↦ absurd (true≢false (sym (lt-ltb least at less) ∙ not-true _ inside.1))
-          | inr more ↦ more
-        ]) in
-        let off = not-true _ there.1 in (
-          high,
-          off,
-          record {
-            low = low;
-            high = omega arith;
-            before = are.before;
-            pass = λ i from up. left-off from (omega arith) (is.before i up);
-            edge = λ _. off;
-          },
-        )
+    run-least = grind (arith, common_steps, and_parts, ltb-true, cases_lt, lt-ltb, not-true, left-off)
 
     pub left-next : {next : ℕ} → ((k : ℕ) → has_bit next k ≡ (has_bit left k && not (eqb k least))) → AreLeft test len (least + 1) next
-    left-next told = record {
-      before = λ j e. let same : j ≡ least = omega arith in rw same run-least.1;
-      rest = λ k. told k ∙ elim (cases_lt k least) [
-        | inl less ↦ rw (is.before k less, lt-ltb k (least + 1) (omega arith)) (rw (and-false (ltb k len)) refl)
-        | inr more ↦ elim (cases_eq k least) [
-          | inl same ↦ rw (eq-eqb _ _ same, lt-ltb k (least + 1) (omega arith)) (rw (and-false (has_bit left k), and-false (ltb k len)) refl)
-          | inr other ↦
-              let low = run-least.2.low in
-              rw (are.rest k, ne_eqb _ _ other, le-ltb k at (omega arith), le-ltb k (least + 1) (omega arith)) (and-true _)
-        ]
-      ];
-    }
+    left-next told = grind (arith, common_steps, run-least, cases_lt, lt-ltb, and-false, cases_eq, eq-eqb, ne_eqb, le-ltb, and-true)
 
 -- ---- the words of a line
 pub written-none : {test : ℕ → Bool} {len first stride : ℕ} {words : List ℕ} → AreWritten test len first stride 0 words words
@@ -137,23 +106,7 @@ words-more bits {test} {len} {first} {stride} {n} {place} {from} words word e so
 pub filled-more : {W : Type 0} (bits : W → ℕ) {first stride start n : ℕ} {from : List ℕ} (words : List W) (word : W)
     → start ≤ n → first + n * stride < length words → AreFilled first stride start n (bits word) from (map bits words)
     → AreFilled first stride start (n + 1) (bits word) from (map bits (set words (first + n * stride) word))
-filled-more bits {first} {stride} {n} words word low there is = rw (map-set bits words (first + n * stride) word) (record {
-  each = λ i above below. elim (cases_eq (first + i * stride) (first + n * stride)) [
-    | inl e ↦ rw e (get_or-set_same to (first + n * stride) (bits word) 0 inside)
-    | inr ne ↦
-        get_or-set_other to (first + n * stride) (first + i * stride) (bits word) 0 ne
-        ∙ is.each i above (elim (cases_eq i n) [ inl same ↦ absurd (ne (ap (λ k. first + k * stride) same)) | inr other ↦ omega arith ])
-  ];
-  others = λ c out.
-      get_or-set_other to (first + n * stride) c (bits word) 0 (λ e. out n low (omega arith) (sym e))
-      ∙ is.others c (λ i above below. out i above (omega arith));
-})
-  where
-    to : List ℕ
-    to = map bits words
-
-    inside : first + n * stride < length to
-    inside = omega (arith, there, length-map words bits)
+filled-more bits {first} {stride} {n} words word low there is = grind (arith, common_steps, map-set, cases_eq, get_or-set_same, get_or-set_other, length-map)
 
 pub written-filled : {test : ℕ → Bool} {len first stride start end bits : ℕ} {from mid to : List ℕ} → 0 < stride
     → IsRunFrom test len start end → ((k : ℕ) → has_bit bits k ≡ (ltb k end && not (ltb k start)))

@@ -58,8 +58,7 @@ must-safe : {cells : ℕ → Bool} {K : Candidates} (c : ℕ) → cells c ≡ tr
 must-safe c there on off = record { one = c; other = c; one_in = there; other_in = there; one_on = on; other_on = on; apart = inr off }
 
 two-safe : {cells : ℕ → Bool} {K : Candidates} (c d : ℕ) → c < d → cells c ≡ true → cells d ≡ true → K c 1 ≡ true → K d 1 ≡ true → AreSafe cells K
-two-safe c d less in_c in_d on_c on_d =
-    record { one = c; other = d; one_in = in_c; other_in = in_d; one_on = on_c; other_on = on_d; apart = inl (λ e. absurd (omega (arith, e, less))) }
+two-safe c d less in_c in_d on_c on_d = grind (arith, common_steps)
 
 -- ---- the runs of a cell as words
 module _ (p : Light) (y x : ℕ) (x_in : x < p.size.w) where
@@ -71,8 +70,7 @@ module _ (p : Light) (y x : ℕ) (x_in : x < p.size.w) where
 
   module _ (run : ℕ) (is : IsRowRun p cell run) where
     row-there : (k : ℕ) → has_bit run k ≡ true → (k < p.size.w) × (joined_in_row p cell (y * p.size.w + k) ≡ true)
-    row-there k on =
-        let parts = and_parts _ _ (sym (is k) ∙ on) in (ltb-true _ _ parts.0, rw (div-mul-add y p.size.w x x_in) at parts.1)
+    row-there k on = grind (arith, common_steps, and_parts, ltb-true, div-mul-add)
 
     -- two of its cells that can have a bulb, or one that must
     pub row-two : (planes : Layers) (bits room : ℕ) → planes.size ≡ p.size → ((k : ℕ) → has_bit bits k ≡ (bit_of planes.rows y 1 k && has_bit run k)) → 1 < count_below (has_bit bits) room
@@ -108,15 +106,7 @@ module _ (p : Light) (y x : ℕ) (x_in : x < p.size.w) where
 
 -- the same of another cell that is joined to them
 pub safe-moved : {joined other : ℕ → Bool} {K : Candidates} → ((c : ℕ) → joined c ≡ true → other c ≡ true) → AreSafe joined K → AreSafe other K
-safe-moved move safe = record {
-  one = safe.one;
-  other = safe.other;
-  one_in = move safe.one safe.one_in;
-  other_in = move safe.other safe.other_in;
-  one_on = safe.one_on;
-  other_on = safe.other_on;
-  apart = safe.apart;
-}
+safe-moved move safe = grind (arith, common_steps)
 
 -- of another cell of the run
 pub row-moved : (p : Light) (y : ℕ) {x : ℕ} (k : ℕ) (x_in : x < p.size.w) (run : ℕ) → IsRowRun p (y * p.size.w + x) run → has_bit run k ≡ true → {K : Candidates}

@@ -220,10 +220,7 @@ module _ {W : Type 0} (bits : W → ℕ) (p : Light) (before now : LineWaits W) 
   runs-settled Columns k lt off = rested.runs Columns k lt (rw columns at off)
 
   numbers-settled : (k : ℕ) → k < p.size.h → has_bit (bits now.numbers) k ≡ false → AreIdle (numbers_of_row p k) K
-  numbers-settled k lt off = elim (cases_Bool (eqb k y)) [
-    | inl own ↦ rw (eqb-true _ _ own) idle
-    | inr other ↦ rested.numbers k lt (first-off (ap not other) (sym (numbers k) ∙ off))
-  ]
+  numbers-settled k lt off = grind (arith, common_steps, cases_Bool, eqb-true, first-off)
 
   pub last-settled : p.size.h ≤ room → any_below (has_bit (bits now.numbers)) room ≡ false → AreLinesRested bits p now K
   last-settled low none = record {
@@ -329,31 +326,14 @@ lights-swept p {from} {to} {fills} size visited =
 
 -- ---- what is kept
 pub planes-next : {room : ℕ} {p : Light} {from to : Layers} → ArePlanesOf room p from → IsFurther from to → ArePlanesAlive to → ArePlanesOf room p to
-planes-next of further alive = record {
-  lawful = of.lawful;
-  narrow = of.narrow;
-  low = of.low;
-  size = further.same_size ∙ of.size;
-  alive = alive;
-}
+planes-next of further alive = grind (arith, common_steps)
 
 -- what does not wait is idle again
 pub ready-next : {W : Type 0} {bits : W → ℕ} {room : ℕ} {p : Light} {from to : Layers} {notes : LightNotes W} → AreLightsReady bits room p from notes
     → IsFurther from to → ArePlanesAlive to → (now : LightNotes W) → now.tables ≡ notes.tables → length now.safe.items ≡ length notes.safe.items
     → AreLinesRested bits p now.waits (has to) → AreLightsReady bits room p to now
-ready-next {bits = bits} {room = room} {p = p} ready further alive now tables long rested = record {
-  planes_of = planes-next ready.planes_of further alive;
-  tables = rw tables ready.tables;
-  safe_long = rw long ready.safe_long;
-  rested = rested;
-}
+ready-next {bits = bits} {room = room} {p = p} ready further alive now tables long rested = grind (arith, common_steps, planes-next)
 
 -- ---- what a closing asks of planes
 pub planes-of : {room : ℕ} {p : Light} {planes : Layers} → IsLight p → HasBoard (light_rules p) p.size room planes → ArePlanesOf room p planes
-planes-of {planes = planes} lawful has_board = record {
-  lawful = lawful;
-  narrow = has_board.suited.0;
-  low = has_board.suited.1;
-  size = has_board.same_size;
-  alive = cells-alive planes has_board.cells has_board.board.alive;
-}
+planes-of {planes = planes} lawful has_board = grind (arith, common_steps, cells-alive)

@@ -234,11 +234,4 @@ struck-none w pieces value = grind (arith, common_steps)
 pub struck-alive : (p q : Layers) (pieces : List Piece) (n value : ℕ) → q.size ≡ p.size → value < 2
     → ArePlanesAlive p → has q ≡ without_value p.size.w pieces n value (has p) → ArePlanesAlive q
 unfolding without_value
-struck-alive p q pieces n value size lt alive left c lc = by value lt (λ v. ap (λ L. L c v) left) (alive c (rw size at lc))
-  where
-    by : (value : ℕ) → value < 2 → ((v : ℕ) → has q c v ≡ (has p c v && not
-        (eqb v value && (has p c (1 - value) && lies_in_first p.size.w pieces n c))))
-        → (has p c 0 ≡ true) ⊎ (has p c 1 ≡ true) → (has q c 0 ≡ true) ⊎ (has q c 1 ≡ true)
-    by zero low is some = grind (arith, common_steps, cases_Bool (has p c 0), cases_Bool (has p c 1), is 0, is 1)
-    by (suc zero) low is some = grind (arith, common_steps, cases_Bool (has p c 0), cases_Bool (has p c 1), is 0, is 1)
-    by (suc (suc value)) low is some = absurd (omega arith)
+struck-alive p q pieces n value size lt alive left c lc = grind (arith, common_steps, cases_Bool)

@@ -69,10 +69,7 @@ around-run {test} {len} {at} {start} {end} on =
 -- ---- the same along two ways of numbering one line
 pub filter-map : (f : ℕ → ℕ) (test : ℕ → Bool) (xs : List ℕ) → filter test (map f xs) ≡ map f (filter (λ x. test (f x)) xs)
 filter-map f test [] = refl
-filter-map f test (x ∷ xs) = elim (cases_Bool (test (f x))) [
-  | inl on ↦ rw on (ap (λ l. f x ∷ l) (filter-map f test xs))
-  | inr off ↦ rw off (filter-map f test xs)
-]
+filter-map f test (x ∷ xs) = grind (arith, common_steps, cases_Bool, filter-map f test xs)
 
 pub filter-same : (s t : ℕ → Bool) (a n : ℕ) → ((i : ℕ) → a ≤ i → i < a + n → s i ≡ t i) → filter s (range_with_len a n) ≡ filter t (range_with_len a n)
 filter-same s t a zero same = refl
@@ -160,9 +157,7 @@ line-from first stride at n =
 kept-others : (f : ℕ → ℕ) (place a n : ℕ) → ((i : ℕ) → a ≤ i → i < a + n → f i ≡ place → ⊥)
     → filter (λ d. not (eqb d place)) (map f (range_with_len a n)) ≡ map f (range_with_len a n)
 kept-others f place a zero other = refl
-kept-others f place a (suc n) other =
-    rw (ne_eqb _ _ (other a (omega arith) (omega arith)))
-    (ap (λ l. f a ∷ l) (kept-others f place (a + 1) n (λ i low lt. other i (omega arith) (omega arith))))
+kept-others f place a (suc n) other = grind (arith, common_steps, ne_eqb, kept-others f place (a + 1) n (λ i low lt. other i (omega arith) (omega arith)))
 
 pub line-cut : (first stride k m : ℕ) {place : ℕ} → 0 < stride → first + k * stride ≡ place
     → filter (λ d. not (eqb d place)) (line first stride (k + suc m)) ≡ line first stride k ++ line (place + stride) stride m
@@ -209,14 +204,7 @@ around-begun p first stride {len} {at} {end} begun on = record {
         let z : first + at * stride - stride ≡ first + i * stride = rw (sym e) (omega arith) in rw z at (not-true _ black)
 
 around-next : {test : ℕ → Bool} {len i start end : ℕ} → IsAround test len i start end → suc i < end → IsAround test len (suc i) start end
-around-next {len} {i} {start} {end} is lt = record {
-  low = let low = is.low in omega arith;
-  past = lt;
-  high = is.high;
-  pass = is.pass;
-  first = is.first;
-  last = is.last;
-}
+around-next {len} {i} {start} {end} is lt = grind (arith, common_steps)
 
 later : (i : ℕ) → eqb (suc i) 0 ≡ false
 later i = ne_eqb (suc i) 0 (λ e. omega (arith, e))
@@ -242,19 +230,10 @@ pub latest-none : (test : ℕ → Bool) (len : ℕ) → IsLatest test len 0 (0, 
 latest-none test len = (λ lt. absurd (omega (arith, lt)), λ past lt on i e. absurd (omega (arith, e)))
 
 pub latest-white : {test : ℕ → Bool} {len at : ℕ} (run : ℕ × ℕ) → IsAround test len at run.0 run.1 → IsLatest test len (at + 1) run
-latest-white {test} {len} {at} run is =
-    let z = add-one at in (
-      λ lt. (omega (arith, is.low), rw z (around-next is (rw z at lt))),
-      λ past lt on i e.
-          let end : run.1 ≡ at + 1 = omega (arith, past, is.past) in
-          absurd (true≢false (sym on ∙ rw end at (is.last (omega (arith, end, lt))))),
-    )
+latest-white {test} {len} {at} run is = grind (arith, common_steps, add-one, around-next)
 
 pub latest-black : {test : ℕ → Bool} {len at : ℕ} (run : ℕ × ℕ) → test at ≡ false → IsLatest test len at run → IsLatest test len (at + 1) run
-latest-black {len} {at} run off latest = (
-  λ lt. let is = (latest.0 (omega (arith, lt))).1 in absurd (true≢false (sym (is.pass at is.low is.past) ∙ off)),
-  λ past lt on i e. let z : i ≡ at = omega (arith, e) in rw z off,
-)
+latest-black {len} {at} run off latest = grind (arith, common_steps)
 
 -- ---- the latest run of each column: at the row below where the row has been looked at, and else at the row
 abbrev pub AreColumnsKept : Light → List (ℕ × ℕ) → ℕ → ℕ → Type 0
@@ -277,9 +256,7 @@ pub columns-none : (p : Light) (runs : List (ℕ × ℕ)) → ((c : ℕ) → c <
 columns-none p runs none c lt = let e : ltb c 0 ≡ false = le-ltb c 0 (omega arith) in rw (e, none c lt) (latest-none (line_white p c p.size.w) p.size.h)
 
 pub columns-row : (p : Light) (runs : List (ℕ × ℕ)) (y : ℕ) → AreColumnsKept p runs y p.size.w → AreColumnsKept p runs (y + 1) 0
-columns-row p runs y are c lt =
-    let e : ltb c 0 ≡ false = le-ltb c 0 (omega arith) in let z : y + 1 + 0 ≡ y + 1 = omega arith in
-    rw (e, z) (rw (lt-ltb _ _ lt) at (are c lt))
+columns-row p runs y are c lt = grind (arith, common_steps, le-ltb, lt-ltb)
 
 pub column-here : (p : Light) (runs : List (ℕ × ℕ)) (y x : ℕ) → AreColumnsKept p runs y x → x < p.size.w
     → IsLatest (line_white p x p.size.w) p.size.h y (get_or runs x (0, 0))
@@ -295,8 +272,7 @@ few-places {p} is = grind (arith, common_steps, mul-le-mul_right)
 -- ---- the house of a white cell
 around-line : (p : Light) (first stride : ℕ) {len at start end : ℕ} → IsAround (line_white p first stride) len at start end
     → map (λ i. first + i * stride) (filter (clear (line_white p first stride) at) (range_with_len 0 len)) ≡ line (first + start * stride) stride (end - start)
-around-line p first stride {len} {at} {start} {end} is =
-    ap (map (λ i. first + i * stride)) (around-run is) ∙ sym (line-from first stride start (end - start))
+around-line p first stride {len} {at} {start} {end} is = grind (arith, common_steps, around-run, line-from)
 
 pub lit-lines : (p : Light) {y x : ℕ} {left right top end : ℕ} → x < p.size.w → white p (y * p.size.w + x) ≡ true
     → IsAround (line_white p (y * p.size.w) 1) p.size.w x left right → IsAround (line_white p x p.size.w) p.size.h y top end

@@ -79,10 +79,7 @@ module _ (p : Tents) (lawful : IsTents p) (K : Candidates) (y : ℕ) (y_in : y <
   pub trees-board : (n : ℕ) → n ≤ p.size.w → AreFilled p K y n → after_houses (houses_below (λ x. tree_house p (cell x)) n) K ≡ without_zeros (struck p K y n) K
   unfolding houses_below after_houses without_zeros is_beside any_below
   trees-board zero le filled = fun_ext λ c. fun_ext λ v. grind (arith, common_steps, cases_Bool)
-  trees-board (suc n) le filled =
-      visits-append (houses_below (λ x. tree_house p (cell x)) n) (tree_house p (cell n)) K
-      ∙ ap (after_houses (tree_house p (cell n))) (trees-board n (omega arith) (λ x lt. filled x (omega arith)))
-      ∙ next-visit n (omega arith) filled
+  trees-board (suc n) le filled = grind (arith, common_steps, visits-append, next-visit, trees-board n (omega arith) (λ x lt. filled x (omega arith)))
 
   -- a tree whose free cells can have no tent
   pub trees-dead : {x : ℕ} (d : ℕ) {v : ℕ} → x < p.size.w → tree p (cell x) ≡ true → may p K y x ≡ 0 → has_place (free_beside p (cell x)) d ≡ true → v < 2

@@ -245,23 +245,13 @@ module _ (p : Tents) (lawful : IsTents p) where
 -- planes stay those of a puzzle while they lose values
 pub field-further : {room : ℕ} {p : Tents} {from to : Layers} {words : List ℕ} → IsFieldOf room p from words → IsFurther from to → ArePlanesAlive to
     → IsFieldOf room p to words
-field-further field further alive = record {
-  lawful = field.lawful;
-  narrow = field.narrow;
-  low = field.low;
-  size = further.same_size ∙ field.size;
-  trees = field.trees;
-  bare = λ c on. false_from_ne_true _ (λ has. true≢false (sym (further.inside c 1 has) ∙ field.bare c on));
-  alive = alive;
-}
+field-further field further alive = grind (arith, common_steps, false_from_ne_true)
 
 -- ---- visits of the lines of a kind that wait
 pub kind-first : {W : Type 0} (bits : W → ℕ) (p : Tents) (kind : Kind) (waits : Waits W) {left : ℕ → Bool} {from : Layers} → ArePlanesAlive from
     → AreTentsRested bits p waits (has from) → ((k : ℕ) → left k ≡ (has_bit (waiting bits waits kind) k && ltb k (kind_lines p kind)))
     → ArePassed (kind_houses p kind) (kind_lines p kind) left from from
-kind-first bits p kind waits alive rested is = passed-first (kind_houses p kind) alive
-    (λ k on. ltb-true _ _ (and_parts _ _ (sym (is k) ∙ on)).1)
-    (λ k lt off. rested kind k lt (first-off (lt-ltb _ _ lt) (sym (is k) ∙ off)))
+kind-first bits p kind waits alive rested is = grind (arith, common_steps, passed-first, ltb-true, and_parts, first-off, lt-ltb)
 
 -- Tents on planes: the sides that the memory is for, and what a closing asks of planes.
 -- ---- the sides that the memory is for
