@@ -1,5 +1,5 @@
 -- Which numbers of ones the fillings of a house have, and what a visit leaves of it.
-use Rattle.fields_core.proofs.Common.{AreDifferent, Bool, Candidates, CountHouse, Fills, Fills-cons, Fills-tail, IsHouse, IsShown, IsTally, IsWithin, Layout, List, Tally, [], add-one, after_house, and-true, and_from, and_parts, ap, arith, bounds_of, cases_Bool, cases_eq, cases_lt, common_steps, cond, count_by, counts_between, distinct-from, eq-eqb, eqb, false, false_from_ne_true, fun_ext, get_or, has_bit, has_place, has_place-at, has_place-here, inl, inr, is_empty, is_open, le-leb, le-ltb, leb-true, length, length-sets_at, longest, ltb-false, max, ne_eqb, nonzeros, not, not-true, not_taken, or_parts, refl, sets_at, sets_at-small, sets_at-value, shown_from_test, slice_index, stays, strikes_at-in_scope, strikes_at-place, strikes_by_fillings, strikes_of, suc, sym, take, take_all, taken-here, taken-other, test_from_shown, true, true≢false, zero, ℕ, ◌&&◌, ◌*◌, ◌+◌, ◌-◌, ◌<◌, ◌||◌, ◌∙◌, ◌∷◌, ◌≡◌, ◌≤◌, ◌⊎◌}
+use Rattle.fields_core.proofs.Common.{AreDifferent, Bool, Candidates, CountHouse, Fills, Fills-cons, Fills-tail, IsHouse, IsShown, IsTally, IsWithin, Layout, List, Tally, [], add-one, after_house, and-true, and_from, and_parts, ap, arith, bounds_of, cases_Bool, cases_eq, cases_lt, common_steps, cond, count_by, counts_between, distinct-from, eq-eqb, eqb, false, false_from_ne_true, fun_ext, get_or, has_bit, has_place, has_place-at, has_place-here, inl, inr, is_empty, is_open, le-leb, le-ltb, leb-true, length, length-sets_at, longest, ltb-false, max, ne_eqb, nonzeros, not, not-true, not_taken, or_parts, refl, sets_at, sets_at-small, sets_at-value, shown_from_test, slice_index, stays, strikes_at-in_scope, strikes_at-place, strikes_by_fillings, strikes_of, suc, sym, take, taken-here, taken-other, test_from_shown, true, true≢false, zero, ℕ, ◌&&◌, ◌*◌, ◌+◌, ◌-◌, ◌<◌, ◌||◌, ◌∙◌, ◌∷◌, ◌≡◌, ◌≤◌, ◌⊎◌}
 use Rattle.fields_core.proofs.PlaceLists.{count-at, count-cons, count-none, count-some, num, num-most}
 use Rattle.fields_core.proofs.CellLemmas.{same-truth}
 use Rattle.grid_core.specs.Board.{cells_of, has}

@@ -1,5 +1,5 @@
 -- Count houses: lists, names and tallies of them.
-use Rattle.fields_core.proofs.Common.{AllByRecursion, AreAdded, AreNamed, Black, Bool, Candidates, CountHouse, Extent, HouseName, IsHouse, IsNext, IsTally, Light, LightCell, List, None, Numbered, Option, Segment, Some, Tally, White, [], add-one, any_below, ap, append-nil, append_assoc, ap₂, arith, at_drop_more, bool_byte, cases_Bool, column_places, common_steps, cond, cond-false, cond-true, count_by, count_by-le-length, count_house_of, div-mul-add, drop, drop_all, eq-eqb, eqb, eqb-true, exactly, false, false_from_ne_true, filter, filter-append, get_or, get_or-append_right, get_or-map, get_or-map-range_with_len, get_or_append_left, has_place, has_place-at, has_place-here, houses_below, if_there, is_empty, is_some, is_white, length, length-append, length-map, length-map-range_with_len, list_any, list_any-append, ltb, map, map-append, named, no_count_house, not, number_house, or_right, place-column, places_of, refl, row_places, segment_places, set, sized, slice_get, slice_get-get_or, slice_get_within, slice_index, step, steps, suc, sym, true, true≢false, white, zero, ℕ, ◌&&◌, ◌*◌, ◌++◌, ◌+◌, ◌-◌, ◌<◌, ◌||◌, ◌∙◌, ◌∷◌, ◌≡◌, ◌≤◌}
+use Rattle.fields_core.proofs.Common.{AllByRecursion, AreAdded, AreNamed, Black, Bool, Candidates, CountHouse, Extent, HouseName, IsHouse, IsNext, IsTally, Light, LightCell, List, None, Numbered, Option, Segment, Some, Tally, White, [], add-one, any_below, ap, append-nil, ap₂, arith, at_drop_more, bool_byte, cases_Bool, column_places, common_steps, cond, cond-false, cond-true, count_by, count_by-le-length, count_house_of, div-mul-add, drop, drop_all, eq-eqb, eqb, eqb-true, exactly, false, false_from_ne_true, filter, filter-append, get_or, get_or-append_right, get_or-map, get_or-map-range_with_len, get_or_append_left, has_place, has_place-at, has_place-here, houses_below, if_there, is_empty, is_some, is_white, length, length-append, length-map, length-map-range_with_len, list_any, list_any-append, ltb, map, map-append, named, no_count_house, not, number_house, or_right, place-column, places_of, refl, row_places, segment_places, set, sized, slice_get, slice_get-get_or, slice_get_within, slice_index, step, steps, suc, sym, true, white, zero, ℕ, ◌&&◌, ◌*◌, ◌++◌, ◌+◌, ◌-◌, ◌<◌, ◌||◌, ◌∙◌, ◌∷◌, ◌≡◌, ◌≤◌}
 use Rattle.fields_core.proofs.PlaceLists.{count-cons, num}
 
 -- Lists of count houses, as they are made.

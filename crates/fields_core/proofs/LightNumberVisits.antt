@@ -6,7 +6,6 @@ use Rattle.fields_core.proofs.LightRuleLemmas.{light-counting}
 use Rattle.fields_core.proofs.BesideLemmas.{whole-cell}
 use Rattle.fields_core.proofs.PlaceLists.{filter-has}
 use Rattle.fields_core.proofs.TentTreeWords.{beside-has}
-use Rattle.std.proofs.Math.Bool.{and_assoc}
 
 -- ---- the house of a number is a house
 pub number-is : {p : Light} {c n : ℕ} → IsLight p → c < light_cells p → get_or p.cells c Black ≡ Numbered n

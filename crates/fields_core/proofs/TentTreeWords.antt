@@ -1,5 +1,5 @@
 -- Words of the cells of a row and of those beside them.
-use Rattle.fields_core.proofs.Common.{Bool, Candidates, Extent, IsNear, IsRowIn, IsRowOf, Layers, List, None, Row, Some, Tents, and-false, and_from, and_parts, any_below-here, any_below-some, ap, arith, beside, bit_of, cases_Bool, cases_lt, common_steps, cond, count_by, covers, crosses, differ, div-add-mod', div-mul-add, eq-eqb, eqb, eqb-true, false, false_from_ne_true, fun_ext, has, has_bit, has_place, if_there, inl, inr, is_barred, is_beside, le-ltb, list_any, lt-ltb, ltb, ltb-true, mod-lt, not, or_cases, or_left, or_right, place-column, refl, step, steps, suc, sum_by-append, sym, tree, true, wants_tent, without_taking, without_zeros, zero, ℕ, ◌%◌, ◌&&◌, ◌*◌, ◌++◌, ◌+◌, ◌-◌, ◌/◌, ◌<◌, ◌||◌, ◌∙◌, ◌≡◌, ◌≤◌}
+use Rattle.fields_core.proofs.Common.{Bool, Candidates, Extent, IsNear, IsRowIn, IsRowOf, Layers, List, None, Row, Some, Tents, and-false, and_from, and_parts, any_below-here, any_below-some, ap, arith, beside, bit_of, cases_Bool, cases_lt, common_steps, cond, count_by, covers, crosses, differ, div-add-mod', div-mul-add, eq-eqb, eqb, eqb-true, false, false_from_ne_true, fun_ext, has, has_bit, has_place, if_there, inl, inr, is_barred, is_beside, le-ltb, lt-ltb, ltb, ltb-true, mod-lt, not, or_cases, or_left, or_right, place-column, refl, step, steps, suc, sum_by-append, sym, tree, true, wants_tent, without_taking, without_zeros, zero, ℕ, ◌%◌, ◌&&◌, ◌*◌, ◌++◌, ◌+◌, ◌-◌, ◌/◌, ◌<◌, ◌||◌, ◌∙◌, ◌≡◌, ◌≤◌}
 use Rattle.fields_core.specs.declared.planes.tents.three_rows.ThreeRows.{ThreeRows}
 use Rattle.fields_core.proofs.CellLemmas.{has-append, has-at, same-truth}
 use Rattle.fields_core.proofs.PlaceLists.{num, some-counted}
