@@ -32,11 +32,7 @@ stays-is : (must may long v : ℕ) (none one : Bool) → v < 2 → 1 ≤ may →
     → (not (ltb 0 0 || (ltb long 1 || (ltb may 1 || ltb long must))) && not ((none && one) && (((eqb v 1) && (eqb must long)) || ((eqb v 0) && (eqb may 1)))))
     ≡ not (eqb v 0 && (one && eqb may 1))
 stays-is must may long zero none one low some pos few less on = rw (le-ltb _ _ pos, le-ltb _ _ some, le-ltb _ _ few) (grind (arith, common_steps, cases_Bool none, cases_Bool one, cases_Bool (eqb may 1)))
-stays-is must may long (suc zero) none one low some pos few less on = rw (le-ltb _ _ pos, le-ltb _ _ some, le-ltb _ _ few) (by (cases_Bool none))
-  where
-    by : (none ≡ true) ⊎ (none ≡ false) → not ((none && one) && ((true && eqb must long) || (false && eqb may 1))) ≡ true
-    by (inr off) = rw off refl
-    by (inl is) = let lt = less is in grind (arith, common_steps, cases_Bool one, eqb-true must long)
+stays-is must may long (suc zero) none one low some pos few less on = grind (arith, common_steps, le-ltb, cases_Bool, eqb-true)
 stays-is must may long (suc (suc v)) none one low some pos few less on = absurd (omega arith)
 
 pub least-after : {cells : ℕ} {places : List ℕ} (K : Candidates) → IsHouse cells (one_at_least places) → AreFull places K → IsFilled places K → (c : ℕ) {v : ℕ} → v < 2 → K c v ≡ true
@@ -96,10 +92,7 @@ module _ {cells : ℕ} {places : List ℕ} (K : Candidates) (is : IsHouse cells 
     several = count-two (λ c. K c 1) places d e ne in_d in_e on_d on_e
 
     none-lone : (c : ℕ) → is_lone places K c ≡ false
-    none-lone c = rw (ne_eqb (count_by (λ d. K d 1) places) 1 (λ e. absurd (omega (arith, several)))) (by (K c 1) (has_place places c))
-      where
-        by : (a b : Bool) → (a && (b && false)) ≡ false
-        by a b = grind (arith, common_steps, cases_Bool a, cases_Bool b)
+    none-lone c = rw (ne_eqb (count_by (λ d. K d 1) places) 1 (λ e. absurd (omega (arith, several)))) (grind (arith, common_steps, cases_Bool (K c 1), cases_Bool (has_place places c)))
 
     several-idle : (c v : ℕ) → K c v ≡ true → strikes_of (one_at_least places) K c v ≡ false
     unfolding after_house
@@ -112,18 +105,12 @@ module _ {cells : ℕ} {places : List ℕ} (K : Candidates) (is : IsHouse cells 
 
     pub several-stay : after_house (one_at_least places) K ≡ K
     unfolding after_house
-    several-stay = fun_ext λ c. fun_ext λ v. elim (cases_Bool (K c v)) [
-      | inl on ↦ rw (on, several-idle c v on) refl
-      | inr off ↦ rw off refl
-    ]
+    several-stay = grind (arith, common_steps, cases_Bool, several-idle)
 
   -- ---- a cell that must be a one: the house is idle
   module _ (d : ℕ) (in_d : has_place places d ≡ true) (on_d : K d 1 ≡ true) (must : K d 0 ≡ false) where
     never-lone : {c : ℕ} → c ≢ d → is_lone places K c ≡ false
-    never-lone {c} ne = false_from_ne_true _ (λ on.
-        let w = and_parts (K c 1) _ on in let v = and_parts (has_place places c) _ w.1 in
-        let one = eqb-true (count_by (λ d. K d 1) places) 1 v.1 in
-        absurd (omega (arith, one, count-two (λ c. K c 1) places c d ne v.0 in_d w.0 on_d)))
+    never-lone {c} ne = grind (arith, common_steps, false_from_ne_true, and_parts, eqb-true, count-two)
 
     pub must-stay : after_house (one_at_least places) K ≡ K
     unfolding without_zeros
@@ -198,11 +185,7 @@ pub alls-kept : (cells : ℕ) (houses : List CountHouse) (K L : Candidates) → 
     → AreIdle houses K → AreIdle houses L
 unfolding after_houses any_has
 alls-kept cells [] K L each full_K full_L inside ones idle = refl
-alls-kept cells (house ∷ houses) K L (is, each) full_K full_L inside ones idle =
-    let first = rw is.same at (idle-first house houses K idle) in
-    let kept = rw (← is.same) at (idle-kept K L is.is full_K full_L inside (λ c there. ones c (or_left _ _ there)) first) in
-    rw kept (alls-kept cells houses K L each full_K full_L inside (λ c there. ones c (or_right _ _ there))
-    (idle-rest house houses K idle))
+alls-kept cells (house ∷ houses) K L (is, each) full_K full_L inside ones idle = grind (arith, common_steps, idle-first, idle-kept, or_left, or_right, idle-rest, alls-kept cells houses K L each full_K full_L inside (λ c there. ones c (or_right _ _ there)))
 
 -- visits that leave each cell a value take no 1
 pub alls-ones : (cells : ℕ) (houses : List CountHouse) (K : Candidates) → AllByRecursion (IsAll cells) houses → IsFull cells K

@@ -33,8 +33,7 @@ ascends size c d {e} zero (suc (suc zero)) pos lt less a b = let v = step-right 
 ascends size c d {e} zero (suc (suc (suc zero))) pos lt less a b = let v = step-down size c e b in omega (arith, v.0, step-up size c d a)
 ascends size c d {e} (suc zero) (suc (suc zero)) pos lt less a b = let u = step-left size c d a in let v = step-right size c e b in omega (arith, u.0, v.0)
 ascends size c d {e} (suc zero) (suc (suc (suc zero))) pos lt less a b = let u = step-left size c d a in let v = step-down size c e b in omega (arith, u.0, v.0)
-ascends size c d {e} (suc (suc zero)) (suc (suc (suc zero))) pos lt less a b = let u =
-    step-right size c d a in let v = step-down size c e b in omega (arith, u.0, u.1, v.0)
+ascends size c d {e} (suc (suc zero)) (suc (suc (suc zero))) pos lt less a b = grind (arith, common_steps, step-right, step-down)
 ascends size c d k m pos lt less a b = absurd (omega arith)
 
 pub there-is : (o : Option ℕ) {d : ℕ} → has_place (if_there o) d ≡ true → o ≡ Some d

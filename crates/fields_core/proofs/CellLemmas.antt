@@ -6,14 +6,14 @@ use Rattle.fields_core.proofs.Common.{AreDistinct, AreRowsOf, Bool, Column, Exte
 pub same-truth : (a b : Bool) → (a ≡ true → b ≡ true) → (b ≡ true → a ≡ true) → a ≡ b
 same-truth a b to from = grind (arith, common_steps, cases_Bool a, cases_Bool b)
 
+pub first-off : {a b : Bool} → b ≡ true → (a && b) ≡ false → a ≡ false
+first-off {a} on e = grind (arith, common_steps, cases_Bool a)
+
+pub second-off : {a b : Bool} → a ≡ true → (a && b) ≡ false → b ≡ false
+second-off {b = b} on e = grind (arith, common_steps, cases_Bool b)
+
 pub cell-is : (w y x c : ℕ) → x < w → eqb (y * w + x) c ≡ (eqb (c / w) y && eqb (c % w) x)
-cell-is w y x c lt = same-truth _ _
-    (λ on.
-    let e = eqb-true (y * w + x) c on in
-    rw (← e, div-mul-add y w x lt, place-column w y x lt) (and_from _ _ (eq-eqb y y refl) (eq-eqb x x refl)))
-    (λ on.
-    let parts = and_parts _ _ on in let q = eqb-true (c / w) y parts.0 in
-    let r = eqb-true (c % w) x parts.1 in eq-eqb _ _ (rw (← q, ← r) (div-add-mod' c w)))
+cell-is w y x c lt = grind (arith, common_steps, same-truth, eqb-true, div-mul-add, place-column, and_from, eq-eqb, and_parts, div-add-mod')
 
 -- the cells of a line are those at its places
 pub place-on : (cell : ℕ → ℕ) (n c : ℕ) → has_place (map cell (range_with_len 0 n)) c ≡ true → (k : ℕ) × (k < n) × (cell k ≡ c)
@@ -77,8 +77,7 @@ pub count-apart : (a b t : ℕ → Bool) (n : ℕ) → ((c : ℕ) → c < n → 
     (λ c. b c && t c) n
 unfolding count_below
 count-apart a b t zero apart = refl
-count-apart a b t (suc n) apart =
-    grind (arith, common_steps, cases_Bool (a n), cases_Bool (b n), cases_Bool (t n), count-apart a b t n (λ c lt. apart c (omega arith)), apart n (omega arith))
+count-apart a b t (suc n) apart = grind (arith, common_steps, cases_Bool, count-apart a b t n (λ c lt. apart c (omega arith)))
 
 count-past : (p : ℕ → Bool) {n : ℕ} (room : ℕ) → n ≤ room → ((k : ℕ) → n ≤ k → p k ≡ false) → count_below p room ≡ count_below p n
 unfolding count_below
@@ -143,8 +142,7 @@ pub crosses-both : (p : Layers) (line : Line) (bits there v c : ℕ) → v < 2 �
     → crosses line there (c / p.size.w) (c % p.size.w) ≡ (crosses line bits (c / p.size.w) (c % p.size.w) && has p c v)
 unfolding crosses has
 crosses-both p (Row n) bits there v c lt is = grind (arith, common_steps, cases_Bool, lt-ltb v 2, cases_eq (c / p.size.w) n, eq-eqb, ne_eqb, is (c % p.size.w))
-crosses-both p (Column n) bits there v c lt is =
-    grind (arith, common_steps, cases_Bool, lt-ltb v 2, cases_eq (c % p.size.w) n, eq-eqb, ne_eqb, is (c / p.size.w))
+crosses-both p (Column n) bits there v c lt is = grind (arith, common_steps, cases_Bool, lt-ltb, cases_eq, eq-eqb, ne_eqb)
 
 -- ---- the places of a list
 pub place-count : (test : ℕ → Bool) (places : List ℕ) (cells : ℕ) → AreDistinct places → ((c : ℕ) → has_place places c ≡ true → c < cells)
@@ -190,5 +188,4 @@ row-read bits words y word lt read = get_or-map bits words y word 0 lt ∙ ap bi
 -- where each row has a word
 pub rows-read : {W : Type 0} (bits : W → ℕ) (words : List W) {size : Extent} {passes : ℕ → Bool} {y : ℕ} {word : W} → y < size.h → AreRowsOf size passes (map bits words)
     → word ≡ get_or words y word → IsRowOf size.w passes y (bits word)
-rows-read bits words {y} {word} lt are read =
-    rw (row-read bits words y word (omega (arith, lt, are.long, length-map words bits)) read) at (are.each y lt)
+rows-read bits words {y} {word} lt are read = grind (arith, common_steps, row-read, length-map)

@@ -1,5 +1,5 @@
 -- Which numbers of ones the fillings of a house have, and what a visit leaves of it.
-use Rattle.fields_core.proofs.Common.{AreDifferent, Bool, Candidates, CountHouse, Fills, Fills-cons, Fills-tail, IsHouse, IsShown, IsTally, IsWithin, Layout, List, Tally, [], add-one, after_house, and-true, and_from, and_parts, ap, arith, bounds_of, cases_Bool, cases_eq, cases_lt, common_steps, cond, count_by, counts_between, distinct-from, eq-eqb, eqb, false, false_from_ne_true, fun_ext, get_or, has_bit, has_place, has_place-at, has_place-here, inl, inr, is_empty, is_open, le-leb, le-ltb, leb-true, length, length-sets_at, longest, ltb-false, max, ne_eqb, nonzeros, not, not-true, not_taken, or_parts, refl, sets_at, sets_at-small, sets_at-value, shown_from_test, slice_index, stays, strikes_at-in_scope, strikes_at-place, strikes_by_fillings, strikes_of, suc, sym, take, take_all, taken-here, taken-other, test_from_shown, true, true≢false, zero, ℕ, ◌&&◌, ◌*◌, ◌+◌, ◌-◌, ◌<◌, ◌||◌, ◌∙◌, ◌∷◌, ◌≡◌, ◌≤◌, ◌⊎◌}
+use Rattle.fields_core.proofs.Common.{AreDifferent, Bool, Candidates, CountHouse, Fills, Fills-cons, Fills-tail, IsHouse, IsShown, IsTally, IsWithin, Layout, List, Tally, [], add-one, after_house, and-true, and_from, and_parts, ap, arith, bounds_of, cases_Bool, cases_eq, cases_lt, common_steps, cond, count_by, counts_between, distinct-from, eq-eqb, eqb, false, false_from_ne_true, fun_ext, get_or, has_bit, has_place, has_place-at, has_place-here, inl, inr, is_empty, is_open, le-leb, le-ltb, leb-true, length, length-sets_at, longest, ltb-false, max, ne_eqb, nonzeros, not, not-true, not_taken, or_parts, refl, sets_at, sets_at-small, sets_at-value, shown_from_test, slice_index, stays, strikes_at-in_scope, strikes_at-place, strikes_by_fillings, strikes_of, suc, sym, take, taken-here, taken-other, test_from_shown, true, true≢false, zero, ℕ, ◌&&◌, ◌*◌, ◌+◌, ◌-◌, ◌<◌, ◌||◌, ◌∙◌, ◌∷◌, ◌≡◌, ◌≤◌, ◌⊎◌}
 use Rattle.fields_core.proofs.PlaceLists.{count-at, count-cons, count-none, count-some, num, num-most}
 use Rattle.fields_core.proofs.CellLemmas.{same-truth}
 use Rattle.grid_core.specs.Board.{cells_of, has}
@@ -231,14 +231,7 @@ module _ (cells : ℕ) (house : CountHouse) (K : Candidates) (t : Tally) (is : I
       rw (none, le-ltb _ _ b.0, le-ltb _ _ w.0, le-ltb _ _ w.1, w.2) refl
 
   stays-shown : {k v : ℕ} → k < length house.places → v < 2 → K (at k) v ≡ true → stays t (bounds_of house) (is_open K (at k)) v ≡ true → Shown k v
-  stays-shown {k} {v} lt low on stay =
-      let both = and_parts _ _ stay in let a = or_parts _ _ (not-true _ both.0) in
-      let order = or_parts _ _ a.1 in let ends = or_parts _ _ order.1 in
-      let none : t.empty ≡ 0 = let e = ltb-false 0 t.empty a.0 in omega arith in
-      let w = room v (K (at k) 0) (K (at k) 1) low (by-value K (at k) low on)
-      (ltb-false t.may house.least ends.0) (ltb-false house.most t.must ends.1) (not-true _ both.1) in
-      bounds-shown K house.places k v is.different lt low on (full none) (ltb-false house.most house.least order.0)
-      (omega (arith, w.0, tally.may_is)) (omega (arith, w.1, tally.must_is))
+  stays-shown {k} {v} lt low on stay = grind (arith, common_steps, and_parts, or_parts, not-true, ltb-false, by-value, bounds-shown)
 
   pub stays-at : {k v : ℕ} → k < length house.places → v < 2 → (K (at k) v && not (struck k v)) ≡ (K (at k) v && stays t (bounds_of house) (is_open K (at k)) v)
   stays-at {k} {v} lt low = elim (cases_Bool (K (at k) v)) [
@@ -251,10 +244,7 @@ module _ (cells : ℕ) (house : CountHouse) (K : Candidates) (t : Tally) (is : I
   -- ---- the board after a visit
   pub after-at : {k v : ℕ} → k < length house.places → v < 2 → after_house house K (at k) v ≡ (K (at k) v && stays t (bounds_of house) (is_open K (at k)) v)
   unfolding after_house strikes_of
-  after-at {k} {v} lt low =
-      ap (λ b. K (at k) v && not b)
-      (strikes_at-place 2 house.places (strikes_by_fillings (counts_between house.least house.most))
-      K k v is.different lt) ∙ stays-at lt low
+  after-at {k} {v} lt low = grind (arith, common_steps, strikes_at-place, stays-at)
 
   -- a house strikes nothing where both values of a cell with both would stay, if there may be such a cell
   pub idle-at : ((v : ℕ) → v < 2 → stays t (bounds_of house) (not (eqb t.must t.may)) v ≡ true) → (c v : ℕ) → v < 2 → K c v ≡ true
@@ -306,8 +296,7 @@ module _ {house : CountHouse} (b : Layout) (is : IsHouse (cells_of b) house) (tw
 
   pub partly-all : {n : ℕ} {L : Candidates} → IsPartly house n (has b) L → length house.places ≤ n → L ≡ after_house house (has b)
   unfolding after_house
-  partly-all {n} partly ge = fun_ext λ c. fun_ext λ v.
-      rw (take_all n house.places ge) at (partly.left c v) ∙ ap (λ off. has b c v && not off) (grind (arith, common_steps, cases_Bool, off-scope))
+  partly-all {n} partly ge = grind (arith, common_steps, cases_Bool, off-scope)
 
   module _ {t : Tally} (tally : IsTally (has b) house.places t) where
     -- a house strikes nothing where all would be kept of a cell with both values, if there may be one

@@ -1,5 +1,5 @@
 -- Count houses: lists, names and tallies of them.
-use Rattle.fields_core.proofs.Common.{AllByRecursion, AreAdded, AreNamed, Black, Bool, Candidates, CountHouse, Extent, HouseName, IsHouse, IsNext, IsTally, Light, LightCell, List, None, Numbered, Option, Segment, Some, Tally, White, [], add-one, any_below, ap, append-nil, append_assoc, ap₂, arith, at_drop_more, bool_byte, cases_Bool, column_places, common_steps, cond, cond-false, cond-true, count_by, count_by-le-length, count_house_of, div-mul-add, drop, drop_all, eq-eqb, eqb, eqb-true, exactly, false, false_from_ne_true, filter, filter-append, get_or, get_or-append_right, get_or-map, get_or-map-range_with_len, get_or_append_left, has_place, has_place-at, has_place-here, houses_below, if_there, is_empty, is_some, is_white, length, length-append, length-map, length-map-range_with_len, list_any, list_any-append, ltb, map, map-append, named, no_count_house, not, number_house, or_right, place-column, places_of, refl, row_places, segment_places, set, sized, slice_get, slice_get-get_or, slice_get_within, slice_index, step, steps, suc, sym, true, true≢false, white, zero, ℕ, ◌&&◌, ◌*◌, ◌++◌, ◌+◌, ◌-◌, ◌<◌, ◌||◌, ◌∙◌, ◌∷◌, ◌≡◌, ◌≤◌}
+use Rattle.fields_core.proofs.Common.{AllByRecursion, AreAdded, AreNamed, Black, Bool, Candidates, CountHouse, Extent, HouseName, IsHouse, IsNext, IsTally, Light, LightCell, List, None, Numbered, Option, Segment, Some, Tally, White, [], add-one, any_below, ap, append-nil, ap₂, arith, at_drop_more, bool_byte, cases_Bool, column_places, common_steps, cond, cond-false, cond-true, count_by, count_by-le-length, count_house_of, div-mul-add, drop, drop_all, eq-eqb, eqb, eqb-true, exactly, false, false_from_ne_true, filter, filter-append, get_or, get_or-append_right, get_or-map, get_or-map-range_with_len, get_or_append_left, has_place, has_place-at, has_place-here, houses_below, if_there, is_empty, is_some, is_white, length, length-append, length-map, length-map-range_with_len, list_any, list_any-append, ltb, map, map-append, named, no_count_house, not, number_house, or_right, place-column, places_of, refl, row_places, segment_places, set, sized, slice_get, slice_get-get_or, slice_get_within, slice_index, step, steps, suc, sym, true, white, zero, ℕ, ◌&&◌, ◌*◌, ◌++◌, ◌+◌, ◌-◌, ◌<◌, ◌||◌, ◌∙◌, ◌∷◌, ◌≡◌, ◌≤◌}
 use Rattle.fields_core.proofs.PlaceLists.{count-cons, num}
 
 -- Lists of count houses, as they are made.
@@ -77,8 +77,7 @@ four-long cells d four =
 -- ---- whether a cell is among some
 pub has-next : (xs : List ℕ) (c : ℕ) (found : Option ℕ) → IsNext (λ k. eqb (slice_index xs k) c) (length xs) 0 found → is_some found ≡ has_place xs c
 has-next xs c (Some k) next = sym (rw (eqb-true _ _ next.2) at (has_place-here xs k next.1))
-has-next xs c None none = sym (false_from_ne_true _ (λ on.
-    let w = has_place-at xs c on in true≢false (sym (eq-eqb _ _ w.2) ∙ none w.0 (omega arith) w.1)))
+has-next xs c None none = grind (arith, common_steps, false_from_ne_true, has_place-at, eq-eqb)
 
 -- ---- segments of which those from a number on are empty
 none-left : (cells : List Segment) (d : Segment) → ((k : ℕ) → k < length cells → segment_places (get_or cells k d) ≡ []) → places_of cells ≡ []
@@ -90,9 +89,7 @@ pub places-set : (cells : List Segment) (i : ℕ) (s d : Segment) → i < length
 places-set [] i s d lt none = absurd (omega arith)
 places-set (c ∷ cells) zero s d lt none =
     rw (none 0 (omega arith) (omega arith), none-left cells d (λ k low. none (suc k) (omega arith) (omega arith))) (append-nil (segment_places s))
-places-set (c ∷ cells) (suc i) s d lt none =
-    ap (λ l. segment_places c ++ l) (places-set cells i s d (omega arith) (λ k from low. none (suc k) (omega arith) (omega arith)))
-    ∙ sym (append_assoc (segment_places c) (places_of cells) (segment_places s))
+places-set (c ∷ cells) (suc i) s d lt none = grind (arith, common_steps, places-set cells i s d (omega arith) (λ k from low. none (suc k) (omega arith) (omega arith)))
 
 append-empty : (xs ys : List ℕ) → xs ++ ys ≡ [] → (xs ≡ []) × (ys ≡ [])
 append-empty [] ys e = (refl, e)
@@ -114,21 +111,17 @@ module _ {K : Type 0} (told : K → ℕ → List CountHouse) where
   added-none a e = rw e (sym (append-nil _))
 
   pub added-more : (a b c : List (HouseName K)) (xs ys : List CountHouse) → AreAdded told a b xs → AreAdded told b c ys → AreAdded told a c (xs ++ ys)
-  added-more a b c xs ys p q =
-      q ∙ ap (λ l. l ++ map sized ys) p ∙ append_assoc (map (named told) a) (map sized xs) (map sized ys)
-      ∙ ap (λ l. map (named told) a ++ l) (sym (map-append sized xs ys))
+  added-more a b c xs ys p q = grind (arith, common_steps, map-append)
 
   -- the name of a house, and no name where there is none
   pub push-added : (items : List (HouseName K)) (name : HouseName K) {more : List (HouseName K)} {house : CountHouse} {houses : List CountHouse}
       → more ≡ items ++ name ∷ [] → houses ≡ house ∷ [] → told name.kind name.place ≡ house ∷ [] → name.cells ≡ length house.places
       → AreAdded told items more houses
-  push-added items name e f g long =
-      rw (e, f) (map-append (named told) items (name ∷ []) ∙ ap₂ (λ h n. map (named told) items ++ (h, n) ∷ []) g long)
+  push-added items name e f g long = grind (arith, common_steps, map-append)
 
   pub below-added : (f : ℕ → List CountHouse) (old items more : List (HouseName K)) (n : ℕ)
       → AreAdded told old items (houses_below f n) → AreAdded told items more (f n) → AreAdded told old more (houses_below f (n + 1))
-  below-added f old items more n added one =
-      rw (sym (below-more f n)) at (added-more old items more (houses_below f n) (f n) added one)
+  below-added f old items more n added one = grind (arith, common_steps, below-more, added-more)
 
   -- row by row
   pub none-yet : (f : ℕ → List CountHouse) (items : List (HouseName K)) (w : ℕ) → AreAdded told items items (houses_below f (0 * w))
@@ -148,8 +141,7 @@ module _ {K : Type 0} (told : K → ℕ → List CountHouse) where
       → AreAdded told a b (houses_below f i) → AreAdded told b c (houses_below g j) → AreAdded told c d (houses_below h l) → AreAdded told d e (houses_below k m)
       → i ≡ i' → j ≡ j' → l ≡ l' → m ≡ m'
       → AreNamed told e (houses_below f i' ++ (houses_below g j' ++ (houses_below h l' ++ houses_below k m')))
-  four-named {a} b c d e none f g h k p q r s same_i same_j same_l same_m =
-      rw (same_i, same_j, same_l, same_m, none) at (added-more a b e _ _ p (added-more b c e _ _ q (added-more c d e _ _ r s)))
+  four-named {a} b c d e none f g h k p q r s same_i same_j same_l same_m = grind (arith, common_steps, added-more)
 
 -- ---- the houses that are named
 pub named-long : {K : Type 0} (told : K → ℕ → List CountHouse) (names : List (HouseName K)) (houses : List CountHouse)
@@ -213,25 +205,14 @@ if-there false place = refl
 step-count : (test : ℕ → Bool) (size : Extent) (place n : ℕ) (there : Bool) (next : ℕ) → step size place n ≡ cond there (Some next) None
     → length (filter test (steps size place (suc n))) ≡ length (filter test (steps size place n)) + passing_if test there next
 unfolding steps
-step-count test size place n there next e =
-    ap length (filter-append test (steps size place n) (if_there (step size place n))) ∙ length-append _ _
-    ∙ ap (λ l. length (filter test (steps size place n)) + length (filter test l)) (ap if_there e ∙ if-there there next)
+step-count test size place n there next e = grind (arith, common_steps, filter-append, length-append, if-there)
 
 pub beside-count : (test : ℕ → Bool) (size : Extent) (x y : ℕ) → x < size.w
     → passing_if test (ltb 0 y) (y * size.w + x - size.w) + passing_if test (ltb 0 x) (y * size.w + x - 1)
     + passing_if test (ltb (x + 1) size.w) (y * size.w + x + 1) + passing_if test (ltb (y + 1) size.h) (y * size.w + x + size.w)
     ≡ length (filter test (steps size (y * size.w + x) 4))
 unfolding steps step
-beside-count test size x y lt =
-    let c = y * size.w + x in let row = div-mul-add y size.w x lt in
-    let column = place-column size.w y x lt in
-    omega (
-      arith,
-      step-count test size c 0 (ltb 0 y) (c - size.w) (rw row refl),
-      step-count test size c 1 (ltb 0 x) (c - 1) (rw column refl),
-      step-count test size c 2 (ltb (x + 1) size.w) (c + 1) (rw column refl),
-      step-count test size c 3 (ltb (y + 1) size.h) (c + size.w) (rw row refl),
-    )
+beside-count test size x y lt = grind (arith, common_steps, div-mul-add, place-column, step-count)
 
 -- ---- the house of a cell's number
 pub number-at : (p : Light) (c n : ℕ) → slice_get p.cells c ≡ Some (Numbered n) → exactly n (filter (white p) (steps p.size c 4)) ∷ [] ≡ number_house p c
@@ -298,5 +279,4 @@ module _ {K : Candidates} {cells : ℕ} {house : CountHouse} where
 pub counts-same : (f g : ℕ → Bool) (xs : List ℕ) → ((c : ℕ) → has_place xs c ≡ true → f c ≡ g c) → count_by f xs ≡ count_by g xs
 unfolding has_place
 counts-same f g [] same = refl
-counts-same f g (x ∷ xs) same =
-    omega (arith, count-cons f x xs, count-cons g x xs, counts-same f g xs (λ c on. same c (or_right _ _ on)), ap num (same x (grind (arith, common_steps, eq-eqb))))
+counts-same f g (x ∷ xs) same = grind (arith, common_steps, count-cons, or_right, eq-eqb, counts-same f g xs (λ c on. same c (or_right _ _ on)))

@@ -111,10 +111,7 @@ module _ (some all : List CountHouse) (from to : Layers) (fills : Bool) (alive :
       ne on off_d off_e low
 
   dead : (c : ℕ) → c < cells → ((v : ℕ) → v < 2 → has to c v ≡ false) → ⊥
-  dead c lt none = elim (visited.alive c (rw (visited.further.same_size) lt)) [
-    | inl zero_on ↦ true≢false (sym zero_on ∙ none 0 (omega arith))
-    | inr one_on ↦ true≢false (sym one_on ∙ none 1 (omega arith))
-  ]
+  dead c lt none = grind (arith, common_steps)
 
   -- a house has two cells that must be ones
   broken : list_any (many_in (has from)) some ≡ true → AreVisited all from to fills
@@ -150,8 +147,7 @@ module _ (some all : List CountHouse) (from to : Layers) (fills : Bool) (alive :
       }
     where
       moved : without_met some (has from) ≡ without_met all (has from)
-      moved = fun_ext λ c. fun_ext λ v. ap (λ (b : Bool). has from c v && not (eqb v 1 && (has from c 0 && b)))
-          (same (λ house. is_met (zeros_of (has from)) house c))
+      moved = grind (arith, common_steps)
 
       living : (c : ℕ) → (has from c 0 ≡ true) ⊎ (has from c 1 ≡ true) → ((v : ℕ) → v < 2 → without_met some (has from) c v ≡ false) → ⊥
       living c value off = by (list_any (λ house. is_met (zeros_of (has from)) house c) some) (off 0 (omega arith)) (off 1 (omega arith)) value
@@ -181,12 +177,7 @@ module _ (cells : ℕ) (house : CountHouse) (K L : Candidates) (is : IsSingle ce
   ]
 
   none-many : (M : Candidates) → ((c : ℕ) → has_place house.places c ≡ true → M c 0 ≡ K c 0) → list_any (many_in M) (house ∷ []) ≡ false
-  none-many M same = false_from_ne_true _ (λ on. elim (or_cases _ _ on) [
-    | inr never ↦ false≢true never
-    | inl many ↦
-        let w = count-pair (λ d. not (M d 0)) house.places (distinct-from house.places is.is.different) (ltb-true _ _ many) in
-        not-two w.2 w.3 w.4 (sym (same w.0 w.3) ∙ not-true _ w.5) (sym (same w.1 w.4) ∙ not-true _ w.6)
-  ])
+  none-many M same = grind (arith, common_steps, false_from_ne_true, or_cases, count-pair, distinct-from, ltb-true, not-two, not-true)
 
   left-by : {M : Candidates} → IsFull cells M → ((c : ℕ) → has_place house.places c ≡ true → M c 0 ≡ K c 0)
       → after_house house M ≡ without_met (house ∷ []) M
@@ -199,13 +190,7 @@ module _ (cells : ℕ) (house : CountHouse) (K L : Candidates) (is : IsSingle ce
     where
       struck : (c v : ℕ) → L c v ≡ true → v ≡ 1 → L c 0 ≡ true → has_place house.places c ≡ true
           → list_any (λ d. not (L d 0)) house.places ≡ true → ⊥
-      struck c v on one zero_on there some =
-          let w = any-some (λ d. not (L d 0)) house.places some in
-          let off : K w.0 0 ≡ false = sym (zeros w.0 w.1) ∙ not-true _ w.2 in
-          let met : is_met (zeros_of K) house c ≡ true = and_from _ _ there (any-here (λ d. not (K d 0)) house.places w.0 w.1 (ap not off)) in
-          let here : K c 1 ≡ true = rw one at (inside c v on) in
-          let gone : without_met (house ∷ []) K c 1 ≡ true = ap (λ (M : Candidates). M c 1) (sym (left-by full_K (λ c _. refl)) ∙ idle) ∙ here in
-          true≢false (sym gone ∙ rw (here, inside c 0 zero_on, met) refl)
+      struck c v on one zero_on there some = grind (arith, common_steps, any-some, not-true, and_from, any-here, left-by)
 
       by : (c v : ℕ) → ((L c v && (eqb v 1 && (L c 0 && is_met (zeros_of L) house c))) ≡ true)
           ⊎ ((L c v && (eqb v 1 && (L c 0 && is_met (zeros_of L) house c))) ≡ false)

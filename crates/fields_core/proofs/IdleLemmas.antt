@@ -2,14 +2,12 @@
 use Rattle.fields_core.proofs.Common.{AllByRecursion, AreDifferent, AreIdle, ArePlanesAlive, AreVisited, Bool, Candidates, CountHouse, IsClosed, IsInside, IsLeast, Layers, List, [], after_house, after_houses, and_parts, any_below, any_below-here, any_below-none, any_below-some, ap, append_assoc, arith, by_fillings-monotone, by_fillings-settled, cases_Bool, cases_eq, cases_lt, common_steps, count_below, count_below-lt, count_house_of, count_puzzle, counts_between, eq-eqb, eqb, false, false_from_ne_true, fun_ext, further-none, get_or-append_seam, has, has_place, houses_below, inl, inr, le-ltb, length, length-append, list_any, list_any-append, lt-ltb, ltb, ne_eqb, no_count_house, not, not-true, or_cases, refl, strikes_at-inside, strikes_of, suc, sym, true, true≢false, zero, ℕ, ◌&&◌, ◌++◌, ◌+◌, ◌-◌, ◌<◌, ◌||◌, ◌∙◌, ◌∷◌, ◌≡◌, ◌≤◌, ◌⊎◌}
 use Rattle.fields_core.proofs.VisitLemmas.{IsFull, after-inside, below-rest, others-stay, sweep-broken, sweep-first, sweep-more, visited-left, visits-append, visits-inside}
 use Rattle.fields_core.proofs.HouseLemmas.{below-more}
+use Rattle.fields_core.proofs.CellLemmas.{first-off}
 
 -- Houses whose visits take nothing, which stay idle while others of their kind are visited, and boards that have changed far from them.
 -- a board between two that have a value in each cell
 pub full-between : {cells : ℕ} {K L M : Candidates} → IsFull cells K → IsFull cells M → IsInside L K → IsInside M L → IsFull cells L
-full-between {K} {L} {M} first last inside within = record {
-  low = λ c v on. first.low c v (inside c v on);
-  some = λ c lt. elim (last.some c lt) [ inl on ↦ inl (within c 0 on) | inr on ↦ inr (within c 1 on) ];
-}
+full-between {K} {L} {M} first last inside within = grind (arith, common_steps)
 
 -- ---- one house
 -- the cells that lost a value are none of the places
@@ -22,20 +20,7 @@ stays a b d e f g = grind (arith, common_steps, cases_Bool a, cases_Bool b, case
 pub house-far : (house : CountHouse) {K L : Candidates} → IsInside L K → IsFar (has_place house.places) K L
     → after_house house K ≡ K → after_house house L ≡ L
 unfolding after_house strikes_of
-house-far house {K} {L} inside far idle = fun_ext λ c. fun_ext λ v. elim (cases_Bool (strikes_of house L c v)) [
-  | inr off ↦ rw off (grind (arith, common_steps, cases_Bool (L c v)))
-  | inl on ↦ elim (cases_Bool (L c v)) [
-    | inr out ↦ rw out refl
-    | inl there ↦ absurd (true≢false (sym (inside c v there) ∙ ap (λ (M : Candidates). M c v) (sym idle)
-        ∙ rw (inside c v there, struck c v on) refl))
-  ]
-]
-  where
-    near : (c v : ℕ) → has_place house.places c ≡ true → K c v ≡ true → L c v ≡ true
-    near c v here on = grind (arith, common_steps, cases_Bool (L c v), far c v on)
-
-    struck : (c v : ℕ) → strikes_of house L c v ≡ true → strikes_of house K c v ≡ true
-    struck c v on = strikes_at-inside 2 house.places _ (by_fillings-monotone _) K L near c v on
+house-far house {K} {L} inside far idle = grind (arith, common_steps, cases_Bool, strikes_at-inside, by_fillings-monotone)
 
 -- ---- lists of houses
 -- a house of the list has the place
@@ -62,8 +47,7 @@ idle-far (house ∷ houses) K L inside far idle =
     (idle-far houses K L inside (λ c v on off. (far-of c v on off).1) (idle-rest house houses K idle))
   where
     far-of : (c v : ℕ) → K c v ≡ true → L c v ≡ false → (has_place house.places c ≡ false) × (any_has houses c ≡ false)
-    far-of c v on off = let e = far c v on off in
-        (grind (arith, common_steps, cases_Bool (has_place house.places c)), grind (arith, common_steps, cases_Bool (any_has houses c)))
+    far-of c v on off = grind (arith, common_steps, cases_Bool)
 
 -- a visit of idle houses takes nothing
 pub visited-idle : (houses : List CountHouse) {p : Layers} → ArePlanesAlive p → AreIdle houses (has p) → AreVisited houses p p true
@@ -121,11 +105,7 @@ keeps-itself cells house K full still idle = ap (after_house house) idle
 
 pub keeps-apart : (cells : ℕ) (visited house : CountHouse) → ((c : ℕ) → has_place visited.places c ≡ true → has_place house.places c ≡ false)
     → Keeps cells visited house
-keeps-apart cells visited house apart K full still idle = house-far house (after-inside visited K)
-    (λ c v on gone. elim (cases_Bool (has_place visited.places c)) [
-      | inl there ↦ apart c there
-      | inr out ↦ absurd (true≢false (sym on ∙ sym (others-stay visited K c v out) ∙ gone))
-    ]) idle
+keeps-apart cells visited house apart K full still idle = grind (arith, common_steps, house-far, after-inside, cases_Bool, others-stay)
 
 -- ---- lists of houses of a kind, each of which keeps each
 pub record AreQuiet (cells : ℕ) (Is : CountHouse → Type 0) : Type 0 where
@@ -146,9 +126,7 @@ module _ {cells : ℕ} {Is : CountHouse → Type 0} (quiet : AreQuiet cells Is) 
       → IsFull cells (after_houses visited K) → AreIdle houses K → AreIdle houses (after_houses visited K)
   unfolding after_houses
   list-kept [] visited K each all full still idle = refl
-  list-kept (house ∷ houses) visited K (is, each) all full still idle =
-      rw (one-kept house visited K is all full still (idle-first house houses K idle))
-      (list-kept houses visited K each all full still (idle-rest house houses K idle))
+  list-kept (house ∷ houses) visited K (is, each) all full still idle = grind (arith, common_steps, one-kept, idle-first, idle-rest, list-kept houses visited K each all full still (idle-rest house houses K idle))
 
   -- and those that were visited
   pub list-settled : (houses : List CountHouse) (K : Candidates) → AllByRecursion Is houses → IsFull cells K
@@ -168,11 +146,7 @@ pub record IsPartOf (part all : List CountHouse) : Type 0 where
   pub is : all ≡ front ++ (part ++ back)
 
 pub in-front : (part front back : List CountHouse) → IsPartOf part front → IsPartOf part (front ++ back)
-in-front part front back within = record {
-  front = within.front;
-  back = within.back ++ back;
-  is = rw within.is (append_assoc within.front (part ++ within.back) back ∙ (rw (append_assoc part within.back back) refl));
-}
+in-front part front back within = grind (arith, common_steps)
 
 pub in-back : {part : List CountHouse} (front : List CountHouse) {back : List CountHouse} → IsPartOf part back → IsPartOf part (front ++ back)
 in-back {part} front {back} within = record {
@@ -199,8 +173,7 @@ in-below f {k} {n} lt =
 pub below-idle : (f : ℕ → List CountHouse) (n : ℕ) (K : Candidates) → ((k : ℕ) → k < n → AreIdle (f k) K) → AreIdle (houses_below f n) K
 unfolding houses_below after_houses
 below-idle f zero K each = refl
-below-idle f (suc n) K each =
-    visits-append (houses_below f n) (f n) K ∙ rw (below-idle f n K (λ k lt. each k (omega arith))) (each n (omega arith))
+below-idle f (suc n) K each = grind (arith, common_steps, visits-append, below-idle f n K (λ k lt. each k (omega arith)))
 
 -- each list of idle houses is idle
 idle-parts : (front back : List CountHouse) (K : Candidates) → AreIdle (front ++ back) K → AreIdle front K × AreIdle back K
@@ -233,8 +206,7 @@ module _ (cells : ℕ) (blocked : ℕ → Bool) (houses : List CountHouse) (is_s
   part-idle : (front part back : List CountHouse) → houses ≡ front ++ (part ++ back) → AreIdle part K
   unfolding after_houses
   part-idle front [] back is = refl
-  part-idle front (house ∷ part) back is = rw (house-idle front house (part ++ back) is)
-      (part-idle (front ++ house ∷ []) part back (is ∙ sym (append_assoc front (house ∷ []) (part ++ back))))
+  part-idle front (house ∷ part) back is = grind (arith, common_steps, house-idle, part-idle (front ++ house ∷ []) part back (is ∙ sym (append_assoc front (house ∷ []) (part ++ back))))
 
   pub closed-idle : {part : List CountHouse} → IsPartOf part houses → AreIdle part K
   closed-idle {part} within = part-idle within.front part within.back within.is
@@ -264,14 +236,7 @@ pub record ArePassed (f : ℕ → List CountHouse) (n : ℕ) (left : ℕ → Boo
 
 pub passed-first : (f : ℕ → List CountHouse) {n : ℕ} {left : ℕ → Bool} {from : Layers} → ArePlanesAlive from → ((k : ℕ) → left k ≡ true → k < n)
     → ((k : ℕ) → k < n → left k ≡ false → AreIdle (f k) (has from)) → ArePassed f n left from from
-passed-first f alive inside idle = record {
-  line = 0;
-  line_in = omega arith;
-  behind = λ k on. omega arith;
-  inside = inside;
-  visited = sweep-first f alive;
-  idle = λ k at lt off. idle k lt off;
-}
+passed-first f alive inside idle = grind (arith, common_steps, sweep-first)
 
 module _ (f : ℕ → List CountHouse) {n : ℕ} {left : ℕ → Bool} {from to : Layers} where
   -- none is left
@@ -281,8 +246,7 @@ module _ (f : ℕ → List CountHouse) {n : ℕ} {left : ℕ → Bool} {from to 
 
   module _ {next : Layers} {room line : ℕ} {fills : Bool} (passed : ArePassed f n left from to) (least : IsLeast left room line) (visited : AreVisited (f line) to next fills) where
     below : AreVisited (houses_below f line) from to true
-    below = visited-skip f (passed.behind line least.has) passed.visited
-        (λ k at lt. passed.idle k at (omega (arith, lt, passed.inside line least.has)) (least.before k lt))
+    below = grind (arith, common_steps, visited-skip)
 
     -- the next line has a house with no filling
     pub passed-broken : fills ≡ false → AreVisited (houses_below f n) from next false
@@ -303,40 +267,15 @@ module _ (f : ℕ → List CountHouse) {n : ℕ} {left : ℕ → Bool} {from to 
 -- the least is taken from what is left
 module _ {left rest : ℕ → Bool} {room least : ℕ} (is : IsLeast left room least) (without : (k : ℕ) → rest k ≡ (left k && not (eqb k least))) where
   pub rest-on : (k : ℕ) → rest k ≡ true → (least < k) × (left k ≡ true)
-  rest-on k on =
-      let w = and_parts _ _ (sym (without k) ∙ on) in (
-        elim (cases_lt least k) [
-          | inl high ↦ high
-          | inr low ↦ elim (cases_eq k least) [
-            | inl e ↦ let gone : not (eqb k least) ≡ false = rw (e, eq-eqb least least refl) refl in absurd (true≢false (sym w.1 ∙ gone))
-            | inr ne ↦ absurd (true≢false (sym w.0 ∙ is.before k (omega (arith, low, ne))))
-          ]
-        ],
-        w.0,
-      )
+  rest-on k on = grind (arith, common_steps, and_parts, cases_lt, cases_eq, eq-eqb)
 
   pub rest-off : {k : ℕ} → least < k → rest k ≡ false → left k ≡ false
-  rest-off {k} high off =
-      let apart : eqb k least ≡ false = ne_eqb k least (λ e. absurd (omega (arith, e, high))) in
-      let kept : rest k ≡ (left k && not false) = without k ∙ rw apart refl in by (left k) (rest k) kept off
-    where
-      by : (a b : Bool) → b ≡ (a && not false) → b ≡ false → a ≡ false
-      by a b e off = grind (arith, common_steps, cases_Bool a, cases_Bool b)
+  rest-off {k} high off = first-off (ap not (ne_eqb k least (λ e. absurd (omega (arith, e, high))))) (sym (without k) ∙ off)
 
 -- places of a word behind one
 module _ (word first rest : ℕ → Bool) (line : ℕ) (first_is : (k : ℕ) → first k ≡ ltb k (line + 1)) (is : (k : ℕ) → rest k ≡ (word k && not (first k))) where
   pub from-on : (k : ℕ) → rest k ≡ true → (line < k) × (word k ≡ true)
-  from-on k on =
-      let w = and_parts _ _ (sym (is k) ∙ on) in (
-        elim (cases_lt line k) [
-          | inl high ↦ high
-          | inr low ↦ absurd (true≢false (sym (first_is k ∙ lt-ltb k (line + 1) (omega (arith, low))) ∙ not-true _ w.1))
-        ],
-        w.0,
-      )
+  from-on k on = grind (arith, common_steps, and_parts, cases_lt, lt-ltb, not-true)
 
   pub from-off : {k : ℕ} → line < k → rest k ≡ false → word k ≡ false
-  from-off {k} high off = by (word k) (first k) (first_is k ∙ le-ltb k (line + 1) (omega (arith, high))) (sym (is k) ∙ off)
-    where
-      by : (a b : Bool) → b ≡ false → (a && not b) ≡ false → a ≡ false
-      by a b out e = grind (arith, common_steps, cases_Bool a, cases_Bool b)
+  from-off {k} high off = first-off (ap not (first_is k ∙ le-ltb k (line + 1) (omega (arith, high)))) (sym (is k) ∙ off)

@@ -11,7 +11,7 @@ use Rattle.fields_core.proofs.TentLines.{barred-alone, barred-tree, count-none, 
 use Rattle.fields_core.proofs.TentRuleLemmas.{count-is, listed-tents, others-unpaired, short-unpaired, solution-from-tents, tents-from-solution, tents-tell, whole-pairs}
 use Rattle.fields_core.proofs.TentWaits.{rested-woken}
 use Rattle.fields_core.proofs.VisitLemmas.{sweep-first, sweep-more}
-use Rattle.fields_core.proofs.Common.{append-nil, append_assoc, eq-eqb, map-append, mul-le-mul_right, mul-lt, ne_eqb}
+use Rattle.fields_core.proofs.Common.{eq-eqb, mul-lt, ne_eqb}
 
 pub ruleset count_rules_laws = (start-blocked, same-shape, start-all, named-long, named-cells, partly-first)
 

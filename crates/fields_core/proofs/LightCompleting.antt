@@ -1,5 +1,5 @@
 -- Light Up: names of houses, lonely numbers, and grids that meet each house.
-use Rattle.fields_core.proofs.Common.{AreMet, AreNamed, Black, Bool, CountHouse, HouseName, IsAround, IsGrid, IsLight, IsNext, Light, LightCell, LightHouse, List, None, Numbered, Option, Segment, Some, White, [], all_below-at, all_below-from, and_parts, any_below, any_below-here, any_below-none, any_below-some, ap, append-nil, ap₂, arith, asks, begins_column_run, begins_row_run, black_right, bulb, bulb_right, bulbs_beside, cases_Bool, cases_eq, cases_lt, column_house, column_run, common_steps, cond, count_by, count_by-le-length, count_house_of, eq-eqb, eqb, eqb-true, exactly, false, false_from_ne_true, filter, get_or, get_or_append_left, get_or_past, has_place, has_place-at, houses_below, inl, inr, is_some, is_white, leb-true, length, length-append, light_cells, light_counts, light_house, light_houses, line_cells, line_white, lit_house, lit_right, lonely, lt-ltb, ltb-true, map, meets, min, mod-lt, ne_eqb, no_count_house, nonzeros, not, not-true, number_house, number_right, one_at_least, one_at_most, or_cases, or_left, or_right, place-append, place-filter, place-front, places_of, refl, row_house, row_run, run_house, seen_from, sees, sees_bulb, segment_places, slice_index, solves_lights, steps, suc, sym, true, true≢false, white, zero, ℕ, ◌%◌, ◌&&◌, ◌*◌, ◌++◌, ◌+◌, ◌-◌, ◌/◌, ◌<◌, ◌||◌, ◌∙◌, ◌∷◌, ◌≡◌, ◌≤◌}
+use Rattle.fields_core.proofs.Common.{AreMet, AreNamed, Black, Bool, CountHouse, HouseName, IsAround, IsGrid, IsLight, IsNext, Light, LightCell, LightHouse, List, None, Numbered, Option, Segment, Some, White, [], all_below-at, all_below-from, and_parts, any_below, any_below-here, any_below-none, any_below-some, ap, append-nil, ap₂, arith, asks, begins_column_run, begins_row_run, black_right, bulb, bulb_right, bulbs_beside, cases_Bool, cases_eq, cases_lt, column_house, column_run, common_steps, cond, count_by, count_by-le-length, count_house_of, eq-eqb, eqb, eqb-true, exactly, false, false_from_ne_true, filter, get_or, get_or_append_left, has_place, has_place-at, houses_below, inl, inr, is_some, is_white, leb-true, length, length-append, light_cells, light_counts, light_house, light_houses, line_cells, line_white, lit_house, lit_right, lonely, lt-ltb, ltb-true, map, meets, min, mod-lt, ne_eqb, no_count_house, nonzeros, not, not-true, number_house, number_right, one_at_least, one_at_most, or_cases, or_left, or_right, place-append, place-filter, place-front, places_of, refl, row_house, row_run, run_house, seen_from, sees, sees_bulb, segment_places, slice_index, solves_lights, steps, suc, sym, true, true≢false, white, zero, ℕ, ◌%◌, ◌&&◌, ◌*◌, ◌++◌, ◌+◌, ◌-◌, ◌/◌, ◌<◌, ◌||◌, ◌∙◌, ◌∷◌, ◌≡◌, ◌≤◌}
 use Rattle.fields_core.proofs.LightHouseLaws.{bulb-in, column-self, lit-from, lit-parts, row-self, small-at, white-in}
 use Rattle.fields_core.proofs.RunLemmas.{column-house-is, lit-lines, row-house-is}
 use Rattle.fields_core.proofs.BesideLemmas.{row-in, whole-cell}
@@ -21,10 +21,7 @@ told-if false house e = absurd (omega arith)
 -- its place lies in the grid
 pub place-tells : (p : Light) (kind : LightHouse) (c : ℕ) → IsLight p → length (light_house p kind c) ≡ 1 → c < light_cells p
 unfolding begins_row_run begins_column_run
-place-tells p Number c lawful e = elim (cases_lt c (length p.cells)) [
-  | inl lt ↦ let long = lawful.count in omega arith
-  | inr past ↦ absurd (omega (arith, rw (get_or_past p.cells c Black past) at e))
-]
+place-tells p Number c lawful e = grind (arith, common_steps, cases_lt)
 place-tells p Row c lawful e = white-in p c lawful.count (and_parts _ _ (told-if (begins_row_run p c) _ e)).0
 place-tells p Column c lawful e = white-in p c lawful.count (and_parts _ _ (told-if (begins_column_run p c) _ e)).0
 place-tells p Lit c lawful e = white-in p c lawful.count (told-if (white p c) _ e)
@@ -80,21 +77,16 @@ calls p name = asks (get_or p.cells name.place Black) && eqb name.cells 0
 -- only a number tells the house of a number other than 0 with no cell
 told-asks : (p : Light) (kind : LightHouse) (c n : ℕ) (places : List ℕ) → light_house p kind c ≡ exactly n places ∷ [] → 0 < n → length places ≡ 0
     → asks (get_or p.cells c Black) ≡ true
-told-asks p Number c n places e some none =
-    let w = number-one (get_or p.cells c Black) _ e in
-    let same : w.0 ≡ n = ap (λ (h : CountHouse). h.least) w.2 in rw (w.1, same) (lt-ltb _ _ some)
+told-asks p Number c n places e some none = grind (arith, common_steps, number-one, lt-ltb)
 told-asks p Row c n places e some none = absurd (omega (arith, ap (λ (h : CountHouse). h.least) (told-one (begins_row_run p c) _ e).1))
 told-asks p Column c n places e some none = absurd (omega (arith, ap (λ (h : CountHouse). h.least) (told-one (begins_column_run p c) _ e).1))
-told-asks p Lit c n places e some none =
-    let h = (told-one (white p c) _ e).1 in
-    absurd (omega (arith, ap (λ (h : CountHouse). h.most) h, ap (λ (h : CountHouse). length h.places) h))
+told-asks p Lit c n places e some none = grind (arith, common_steps, told-one)
 
 -- a name that asks for what no grid has is that of a lonely number
 calls-lonely : (p : Light) (kind : LightHouse) (c : ℕ) (house : CountHouse) → light_house p kind c ≡ house ∷ [] → length house.places ≡ 0
     → asks (get_or p.cells c Black) ≡ true → lonely p c ≡ true
 unfolding begins_row_run begins_column_run
-calls-lonely p Number c house e none on =
-    let w = number-one (get_or p.cells c Black) _ e in rw on (eq-eqb _ _ (ap (λ (h : CountHouse). length h.places) w.2 ∙ none))
+calls-lonely p Number c house e none on = grind (arith, common_steps, number-one, eq-eqb)
 calls-lonely p Row c house e none on = absurd (asks-black p c on (and_parts _ _ (told-one (begins_row_run p c) _ e).0).0)
 calls-lonely p Column c house e none on = absurd (asks-black p c on (and_parts _ _ (told-one (begins_column_run p c) _ e).0).0)
 calls-lonely p Lit c house e none on = absurd (asks-black p c on (told-one (white p c) _ e).0)
@@ -108,8 +100,7 @@ number-few (Numbered n) places = omega arith
 numbers-few : (p : Light) (n : ℕ) → length (houses_below (number_house p) n) ≤ n
 unfolding houses_below
 numbers-few p zero = omega arith
-numbers-few p (suc n) =
-    omega (arith, numbers-few p n, length-append (houses_below (number_house p) n) (number_house p n), number-few (get_or p.cells n Black) (filter (white p) (steps p.size n 4)))
+numbers-few p (suc n) = grind (arith, common_steps, length-append, number-few, numbers-few p n)
 
 within-front : (front back : List CountHouse) {k : ℕ} → k < length front → k < length (front ++ back)
 within-front front back lt = omega (arith, length-append front back)
@@ -137,11 +128,7 @@ module _ (p : Light) (names : List (HouseName LightHouse)) (are : AreNamed (ligh
   -- where none of the first names asks for what no grid has, no number is lonely
   pub none-lonely : ((k : ℕ) → k < length names → k < light_cells p → calls p (get_or names k no_name) ≡ false)
       → any_below (lonely p) (light_cells p) ≡ false
-  none-lonely off = false_from_ne_true _ (λ on.
-      let w = any_below-some (lonely p) (light_cells p) on in let parts = and_parts _ _ w.2 in
-      let cell = asks-number (get_or p.cells w.0 Black) parts.0 in
-      let name = number-named w.1 cell.1 cell.2 (eqb-true _ _ parts.1) in
-      true≢false (sym name.3 ∙ off name.0 name.1 name.2))
+  none-lonely off = grind (arith, common_steps, false_from_ne_true, any_below-some, and_parts, asks-number, number-named, eqb-true)
 
   -- one of them that does is that of a lonely number
   pub some-lonely : (k : ℕ) → IsLight p → k < length names → calls p (get_or names k no_name) ≡ true → any_below (lonely p) (light_cells p) ≡ true
@@ -167,10 +154,7 @@ module _ (p : Light) (g : List ℕ) (is : IsLight p) (grid : IsGrid (light_cells
   Meets house = 0 < length house.places → meets house g ≡ true
 
   bulb-white : (c : ℕ) → c < light_cells p → bulb g c ≡ true → white p c ≡ true
-  bulb-white c lt on = elim (cases_Bool (white p c)) [
-    | inl is ↦ is
-    | inr off ↦ let a = met.blocked_zero c lt (ap not off) in let b = eqb-true _ _ on in absurd (omega arith)
-  ]
+  bulb-white c lt on = grind (arith, common_steps, cases_Bool, eqb-true)
 
   -- ---- runs
   row-met : (c : ℕ) → white p c ≡ true → Meets (one_at_most (row_run p c))
@@ -193,10 +177,7 @@ module _ (p : Light) (g : List ℕ) (is : IsLight p) (grid : IsGrid (light_cells
   run-apart : (run : List ℕ) (c d : ℕ) → Meets (one_at_most run) → has_place run c ≡ true → has_place run d ≡ true → bulb g c ≡ true → bulb g d ≡ true
       → (c ≡ d → ⊥) → ⊥
   unfolding meets
-  run-apart run c d is_met mc md bc bd apart =
-      let some = has_place-at run c mc in let counts = and_parts _ _ (is_met (omega (arith, some.1))) in
-      let few = leb-true (nonzeros (map (slice_index g) run)) 1 counts.1 in
-      omega (arith, few, ones-bulbs g run (small-at grid), count-two (bulb g) run c d mc md bc bd apart)
+  run-apart run c d is_met mc md bc bd apart = grind (arith, common_steps, has_place-at, and_parts, leb-true, ones-bulbs, small-at, count-two)
 
   bulbs-right : (c : ℕ) → c < light_cells p → bulb_right p g c ≡ true
   unfolding bulb_right sees_bulb sees
@@ -244,10 +225,7 @@ module _ (p : Light) (g : List ℕ) (is : IsLight p) (grid : IsGrid (light_cells
 
   blacks-right : (c : ℕ) → c < light_cells p → black_right p g c ≡ true
   unfolding black_right
-  blacks-right c lt = elim (cases_Bool (white p c)) [
-    | inl on ↦ or_left _ _ on
-    | inr off ↦ or_right _ _ (eq-eqb _ _ (met.blocked_zero c lt (ap not off)))
-  ]
+  blacks-right c lt = grind (arith, common_steps, cases_Bool, or_left, or_right, eq-eqb)
 
   -- ---- numbers
   number-met : {c : ℕ} (n : ℕ) → c < light_cells p → get_or p.cells c Black ≡ Numbered n → Meets (exactly n (filter (white p) (steps p.size c 4)))
@@ -273,15 +251,7 @@ module _ (p : Light) (g : List ℕ) (is : IsLight p) (grid : IsGrid (light_cells
   -- a number is right unless it is above 0 with no white cell beside it
   number-told : {c : ℕ} → c < light_cells p → number_right p g c ≡ not (lonely p c)
   unfolding number_right
-  number-told {c} lt = by _ refl
-    where
-      by : (cell : LightCell) → get_or p.cells c Black ≡ cell → number_right p g c ≡ not (lonely p c)
-      by White e = rw e refl
-      by Black e = rw e refl
-      by (Numbered n) e = elim (cases_eq (length (whites c)) 0) [
-        | inl none ↦ grind (arith, common_steps, beside-none, cases_eq n 0, eq-eqb, ne_eqb, e, none)
-        | inr some ↦ grind (arith, common_steps, beside-met, eq-eqb, ne_eqb, e, some)
-      ]
+  number-told {c} lt = grind (arith, common_steps, cases_eq, beside-none, eq-eqb, ne_eqb, beside-met)
 
   pub completed : {told : Bool} → told ≡ not (any_below (lonely p) (light_cells p)) → told ≡ solves_lights p g
   completed {told} e = e ∙ sym (elim (cases_Bool (any_below (lonely p) (light_cells p))) [

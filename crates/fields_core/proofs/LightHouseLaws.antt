@@ -1,5 +1,5 @@
 -- The houses of Light Up, its tests, and which bulbs a cell sees.
-use Rattle.fields_core.proofs.Common.{AreDistinct, Bool, CountHouse, Extent, IsGrid, IsHouse, Light, List, all_below, all_below-at, all_below-from, and_from, and_parts, ap, arith, begins_column_run, begins_row_run, black_right, bulb, bulb_right, cases_Bool, cases_eq, cases_lt, clear, column-at, column_places, column_run, common_steps, count_by, different-from, distinct-from, div-eq_of_lt, div-lt_iff_lt-mul, eq-eqb, eqb, eqb-true, false, false_from_ne_true, filter, filter_agree, get_or_past, has_place, inl, inr, joined_in_column, joined_in_row, le-leb, length, light_cells, lit_right, lt-ltb, ltb, ltb-true, max, meets, min, mod-lt, mul-le-mul_right, not, not-false, number_right, or_cases, or_left, or_parts, or_right, row-at, row_places, row_run, slice_index, solves_lights, sym, true, true≢false, white, ℕ, ◌%◌, ◌*◌, ◌+◌, ◌-◌, ◌/◌, ◌<◌, ◌||◌, ◌∙◌, ◌≡◌, ◌≤◌}
+use Rattle.fields_core.proofs.Common.{AreDistinct, Bool, CountHouse, Extent, IsGrid, IsHouse, Light, List, ℕ, [], all_below, all_below-at, all_below-from, and_from, and_parts, ap, arith, begins_column_run, begins_row_run, black_right, bulb, bulb_right, cases_Bool, cases_eq, cases_lt, clear, column-at, column_places, column_run, common_steps, count_by, count_house_of, different-from, distinct-from, div-eq_of_lt, div-lt_iff_lt-mul, eq-eqb, eqb, eqb-true, false, false_from_ne_true, filter, filter_agree, get_or_past, has_place, inl, inr, joined_in_column, joined_in_row, le-leb, length, light_cells, lit_right, lt-ltb, ltb, ltb-true, max, meets, min, mod-lt, mul-le-mul_right, not, not-false, number_right, or_cases, or_left, or_parts, or_right, row-at, row_places, row_run, slice_index, solves_lights, suc, sym, true, white, zero, ◌%◌, ◌*◌, ◌++◌, ◌+◌, ◌-◌, ◌/◌, ◌<◌, ◌||◌, ◌∙◌, ◌∷◌, ◌≡◌, ◌≤◌}
 use Rattle.fields_core.proofs.HouseLemmas.{column-long, row-long}
 use Rattle.fields_core.proofs.BesideLemmas.{cell-below, cell-parts, whole-cell}
 use Rattle.fields_core.proofs.PlaceLists.{ones-bulbs}
@@ -46,6 +46,15 @@ pub some-column : (p : Light) {c : ℕ} → c < light_cells p → 0 < p.size.w
 some-column p lt = grind (arith, common_steps)
 
 -- The houses of Light Up are houses, and each solution meets them.
+-- ---- what holds of each house of a list
+abbrev pub EachOf : (CountHouse → Type 0) → List CountHouse → Type 0
+EachOf P houses = (h : ℕ) → h < length houses → P (count_house_of houses h)
+
+pub each-append : (P : CountHouse → Type 0) (xs ys : List CountHouse) → EachOf P xs → EachOf P ys → EachOf P (xs ++ ys)
+each-append P [] ys ex ey h lt = ey h lt
+each-append P (x ∷ xs) ys ex ey zero lt = ex 0 (omega arith)
+each-append P (x ∷ xs) ys ex ey (suc h) lt = each-append P xs ys (λ k l. ex (suc k) (omega arith)) ey h (omega arith)
+
 -- ---- a house of the board that each solution meets
 pub record IsMet (cells : ℕ) (good : List ℕ → Bool) (house : CountHouse) : Type 0 where
   pub is_house : IsHouse cells house
@@ -202,10 +211,7 @@ column-run-on p d some off on =
     (d - p.size.w, next, before, column-run-next p (d - p.size.w) d some next before on)
   where
     low : eqb (d / p.size.w) 0 ≡ false → p.size.w ≤ d
-    low ne = elim (cases_lt d p.size.w) [
-      | inl top ↦ absurd (true≢false (sym (eq-eqb _ _ (div-eq_of_lt {n = d} {m = p.size.w} top)) ∙ ne))
-      | inr inner ↦ inner
-    ]
+    low ne = grind (arith, common_steps, cases_lt, eq-eqb, div-eq_of_lt)
 
 -- a white cell lies in the grid
 pub white-in : (p : Light) (c : ℕ) → length p.cells ≡ light_cells p → white p c ≡ true → c < light_cells p

@@ -1,5 +1,5 @@
 -- Visits of the white cells of Light Up on planes.
-use Rattle.fields_core.proofs.Common.{ArePieces, ArePlanesAlive, AreVisited, Bool, Column, Extent, IsColumnRun, IsFurther, IsHouse, IsHouseOf, IsLight, IsRowRun, Layers, Light, List, Piece, Row, and-false, and-true, and_from, and_parts, any_below, any_below-none, any_below-some, ap, arith, cases_Bool, cases_eq, column_house, column_run, common_steps, count_below, count_below-pos, count_below-same, crosses, distinct-from, div-mul-add, eq-eqb, eqb, eqb-true, false, false_from_ne_true, has_bit, has_place, houses_below, inl, inr, joined_in_column, joined_in_row, length, lies_in, lies_in_first, light_cells, light_houses, lit_house, lt-ltb, ltb-true, mod-lt, ne_eqb, not, number_house, one_at_least, place-column, place-in, refl, row_house, row_run, seen_from, subst, sym, true, true≢false, white, ℕ, ◌%◌, ◌&&◌, ◌*◌, ◌+◌, ◌/◌, ◌<◌, ◌||◌, ◌∙◌, ◌≡◌, ◌≤◌}
+use Rattle.fields_core.proofs.Common.{ArePieces, ArePlanesAlive, AreVisited, Bool, Column, Extent, IsColumnRun, IsFurther, IsHouse, IsHouseOf, IsLight, IsRowRun, Layers, Light, List, Piece, Row, and-false, and-true, and_from, and_parts, any_below, any_below-none, any_below-some, ap, arith, cases_Bool, cases_eq, column_house, column_run, common_steps, count_below, count_below-pos, count_below-same, crosses, distinct-from, div-mul-add, eq-eqb, eqb, eqb-true, false, false_from_ne_true, has_bit, has_place, houses_below, joined_in_column, joined_in_row, length, lies_in, lies_in_first, light_cells, light_houses, lit_house, lt-ltb, ltb-true, mod-lt, ne_eqb, not, number_house, one_at_least, place-column, place-in, refl, row_house, row_run, seen_from, subst, sym, true, true≢false, white, ℕ, ◌%◌, ◌&&◌, ◌*◌, ◌+◌, ◌/◌, ◌<◌, ◌∙◌, ◌≡◌, ◌≤◌}
 use Rattle.fields_core.proofs.CellLemmas.{has-append, place-count, same-truth}
 use Rattle.fields_core.proofs.LightRuleLemmas.{column-run-joined, in-column-run, in-row-run, light-board, light-counting, row-run-joined}
 use Rattle.fields_core.proofs.LightHouseLaws.{column-parts, column-white-end, row-parts, row-self, white-in}
@@ -87,27 +87,15 @@ module _ {p : Light} {y x row_bits column_bits others : ℕ} {from : Layers} {ro
 
   -- the others of the column are those at other places
   other-at : (c : ℕ) → c % p.size.w ≡ x → eqb c cell ≡ eqb (c / p.size.w) y
-  other-at c same = same-truth _ _
-      (λ on. eq-eqb (c / p.size.w) y (rw (eqb-true c cell on) (div-mul-add y p.size.w x x_in)))
-      (λ on. eq-eqb c cell (whole-cell p.size.w c ∙ rw (eqb-true (c / p.size.w) y on, same) refl))
+  other-at c same = grind (arith, common_steps, same-truth, eq-eqb, eqb-true, div-mul-add, whole-cell)
 
   seen-has : (c : ℕ) → has_place (seen_from p cell) c ≡ lies_in_first p.size.w (both_pieces y x row_bits others) 2 c
   unfolding seen_from crosses
-  seen-has c =
-      has-append (row_run p cell) _ c
-      ∙ rw (row-run-has c, filter-has (λ d. not (eqb d cell)) (column_run p cell) c, column-run-has c, lies-both p.size.w y x row_bits others c, s.others_is (c / p.size.w))
-      (ap (λ b. (eqb (c / p.size.w) y && has_bit row_bits (c % p.size.w)) || b) (elim (cases_eq (c % p.size.w) x) [
-        | inl same ↦ rw (other-at c same, eq-eqb _ _ same) (by (has_bit column_bits (c / p.size.w)) (eqb (c / p.size.w) y))
-        | inr ne ↦ rw (ne_eqb _ _ ne) refl
-      ]))
-    where
-      by : (a b : Bool) → ((true && a) && not b) ≡ (true && (a && not b))
-      by a b = grind (arith, common_steps, cases_Bool a, cases_Bool b)
+  seen-has c = grind (arith, common_steps, has-append, row-run-has, filter-has, column-run-has, lies-both, cases_eq, other-at, eq-eqb, cases_Bool, ne_eqb)
 
   -- a white cell has itself in its run, a black one has no run
   white-run : any_below (has_bit row_bits) room ≡ true → white p cell ≡ true
-  white-run on =
-      let k = any_below-some (has_bit row_bits) room on in row-white-start p cell _ (and_parts _ _ (sym (s.row_is k.0) ∙ k.2)).1
+  white-run on = grind (arith, common_steps, any_below-some, row-white-start, and_parts)
 
   pub black-visited : any_below (has_bit row_bits) room ≡ false → AreVisited (lit_house p cell) from from true
   black-visited none = rw black (visited-none s.alive)

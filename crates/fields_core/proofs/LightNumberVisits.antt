@@ -19,10 +19,7 @@ number-is {p} {c} {n} lawful lt e =
 pub columns-more : {W : Type 0} (bits : W → ℕ) (words : List W) (n : ℕ) (size : Extent) (passes : ℕ → Bool) (word : W) → n < length words
     → ((x : ℕ) → x < n → IsColumnOf size passes x (slice_index (map bits words) x)) → IsColumnOf size passes n (bits word)
     → (x : ℕ) → x < n + 1 → IsColumnOf size passes x (slice_index (map bits (set words n word)) x)
-columns-more bits words n size passes word lt written is x less y = rw (map-set bits words n word) (elim (cases_eq x n) [
-  | inl e ↦ rw (e, get_or-set_same (map bits words) n (bits word) 0 (omega (arith, lt, length-map words bits))) (is y)
-  | inr ne ↦ rw (get_or-set_other (map bits words) n x (bits word) 0 ne) (written x (omega arith) y)
-])
+columns-more bits words n size passes word lt written is x less y = grind (arith, common_steps, map-set, cases_eq, get_or-set_same, length-map, get_or-set_other)
 
 -- ---- the cells beside a cell, by row and column
 -- the number before one and the number after it
@@ -61,10 +58,7 @@ beside-cell size y {x} d lt =
     left = rw (cell-is size.w y (x - 1) d (omega arith)) refl
 
     right : (ltb (x + 1) size.w && eqb (y * size.w + (x + 1)) d) ≡ (ltb (x + 1) size.w && (eqb (d / size.w) y && eqb (d % size.w) (x + 1)))
-    right = elim (cases_lt (x + 1) size.w) [
-      | inl less ↦ rw (cell-is size.w y (x + 1) d less) refl
-      | inr high ↦ rw (le-ltb _ _ high) refl
-    ]
+    right = grind (arith, common_steps, cases_lt, cell-is, le-ltb)
 
     two : (a b c d e : Bool) → ((a && (e && b)) || (c && (e && d))) ≡ (e && ((a && b) || (c && d)))
     two a b c d e = grind (arith, common_steps, cases_Bool a, cases_Bool b, cases_Bool c, cases_Bool e)
@@ -91,21 +85,12 @@ pub beside-word : {n room : ℕ} (a both near word : ℕ) (passes : ℕ → Bool
     → ((k : ℕ) → has_bit both k ≡ (has_bit near k && has_bit word k))
     → ((k : ℕ) → k < room → has_bit near k ≡ (eqb k (a + 1) || eqb a (k + 1)))
     → ((k : ℕ) → has_bit word k ≡ (ltb k n && passes k)) → IsBeside n passes a both
-beside-word {n} {room} a both near word passes fits both_is near_is word_is k = both_is k ∙ elim (cases_lt k room) [
-  | inl less ↦ rw (near_is k less, word_is k) refl
-  | inr high ↦ rw (word_is k, le-ltb k n (omega arith), and-false (has_bit near k), and-false (eqb k (a + 1) || eqb a (k + 1))) refl
-]
+beside-word {n} {room} a both near word passes fits both_is near_is word_is k = grind (arith, common_steps, cases_lt, le-ltb, and-false)
 
 -- of a line those of the cells beside one that pass
 part-is : {n a d : ℕ} (line at k bits : ℕ) (cell : ℕ → ℕ) (passes : ℕ → Bool) → a < n → IsBeside n (λ k. passes (cell k)) a bits → (line ≡ at → cell k ≡ d)
     → ((eqb line at && next_to n a k) && passes d) ≡ (eqb line at && has_bit bits k)
-part-is {n} {a} {d} line at k bits cell passes lt is here = elim (cases_eq line at) [
-  | inl same ↦ rw (eq-eqb _ _ same, next-is k lt, is k, here same) (by _ (ltb k n) (passes d))
-  | inr ne ↦ rw (ne_eqb _ _ ne) refl
-]
-  where
-    by : (a b c : Bool) → ((true && (a && b)) && c) ≡ (true && (a && (b && c)))
-    by a b c = grind (arith, common_steps, cases_Bool a, cases_Bool b)
+part-is {n} {a} {d} line at k bits cell passes lt is here = grind (arith, common_steps, cases_eq, eq-eqb, next-is, ne_eqb)
 
 pub lies-both : (w y x row column d : ℕ) → lies_in_first w (both_pieces y x row column) 2 d
     ≡ ((eqb (d / w) y && has_bit row (d % w)) || (eqb (d % w) x && has_bit column (d / w)))
@@ -127,10 +112,7 @@ pieces-apart size {y} {x} row column y_in x_in off = record { lines_in = lines; 
     lines (suc (suc k)) less = absurd (omega arith)
 
     never : (c : ℕ) → lies_in size.w (piece_at pieces 0) c ≡ true → lies_in size.w (piece_at pieces 1) c ≡ true → ⊥
-    never c on_row on_column =
-        let in_row = and_parts (eqb (c / size.w) y) (has_bit row (c % size.w)) on_row in
-        let in_column = and_parts (eqb (c % size.w) x) (has_bit column (c / size.w)) on_column in
-        off (rw (eqb-true (c % size.w) x in_column.0) at in_row.1) (rw (eqb-true (c / size.w) y in_row.0) at in_column.1)
+    never c on_row on_column = grind (arith, common_steps, and_parts, eqb-true)
 
     apart : (j k c : ℕ) → j < 2 → k < 2 → lies_in size.w (piece_at pieces j) c ≡ true → lies_in size.w (piece_at pieces k) c ≡ true → j ≡ k
     apart zero zero c lj lk on_j on_k = refl
@@ -164,12 +146,7 @@ module _ (p : Light) (lawful : IsLight p) (y x row column : ℕ) (y_in : y < p.s
   column-part d = part-is (d % p.size.w) x (d / p.size.w) column (λ k. k * p.size.w + x) (white p) y_in column_is (λ same. rw (← same) (sym (whole-cell p.size.w d)))
 
   places-are : (d : ℕ) → has_place places d ≡ lies_in_first p.size.w pieces 2 d
-  places-are d =
-      filter-has (white p) (beside p.size cell) d
-      ∙ rw (beside-cell p.size y d x_in, lies-both p.size.w y x row column d, ← row-part d, ← column-part d) (by _ _ (white p d))
-    where
-      by : (a b c : Bool) → ((a || b) && c) ≡ ((a && c) || (b && c))
-      by a b c = grind (arith, common_steps, cases_Bool a, cases_Bool b, cases_Bool c)
+  places-are d = grind (arith, common_steps, filter-has, beside-cell, lies-both, row-part, column-part, cases_Bool)
 
   module _ (n : ℕ) (numbered : get_or p.cells cell Black ≡ Numbered n) (from : Layers) (size : from.size ≡ p.size) where
     house_is : IsHouse (light_cells p) (exactly n places)

@@ -1,5 +1,5 @@
 -- Light Up: the rows of numbers and of white cells that wait.
-use Rattle.fields_core.proofs.Common.{AreColumnsParted, AreIdleBut, AreParted, ArePlanesAlive, Black, Bool, Candidates, Column, IsAway, IsLeast, IsLight, IsReach, IsRowOf, Layers, Light, LightCell, Line, Numbered, Row, Touched, White, [], after_houses, and_from, any_below, any_below-none, ap, arith, at_line, cases_Bool, cases_lt, clear, column_run, common_steps, div-mul-add, eqb, false, false_from_ne_true, get_or, has_bit, has_place, houses_below, inl, inr, is_numbered, joined_in_column, joined_in_row, le-ltb, light_cells, line_len, lines_beside, lt-ltb, ltb, max, min, not, number_house, number_of, numbers_of_row, place-append, place-column, place-filter, place-in, refl, row_run, seen_from, sym, true, true≢false, white, ℕ, ◌%◌, ◌&&◌, ◌*◌, ◌+◌, ◌/◌, ◌<◌, ◌∙◌, ◌≡◌, ◌≤◌, ◌⊎◌}
+use Rattle.fields_core.proofs.Common.{AreColumnsParted, AreIdleBut, AreParted, ArePlanesAlive, Bool, Candidates, Column, IsAway, IsLeast, IsLight, IsReach, IsRowOf, Layers, Light, Line, Row, Touched, ℕ, [], after_houses, and-false, and_from, any_below, any_below-none, ap, arith, at_line, cases_Bool, cases_lt, clear, common_steps, div-mul-add, eqb, false, false_from_ne_true, has_bit, has_place, houses_below, inl, inr, is_numbered, joined_in_column, joined_in_row, le-ltb, light_cells, line_len, lines_beside, lt-ltb, ltb, max, min, not, number_house, number_of, numbers_of_row, place-append, place-column, place-filter, place-in, refl, seen_from, sym, true, true≢false, white, ◌%◌, ◌&&◌, ◌*◌, ◌+◌, ◌/◌, ◌<◌, ◌∙◌, ◌≡◌, ◌≤◌, ◌⊎◌}
 use Rattle.fields_core.proofs.VisitLemmas.{below-rows}
 use Rattle.fields_core.proofs.CellLemmas.{has-at}
 use Rattle.fields_core.proofs.LightRuleLemmas.{column-run-joined, light-board, row-run-joined}
@@ -12,12 +12,7 @@ use Rattle.fields_core.proofs.BesideLemmas.{row-in}
 -- a cell without a number has no house
 bare : (p : Light) (c : ℕ) → is_numbered p c ≡ false → number_house p c ≡ []
 unfolding is_numbered
-bare p c off = by (get_or p.cells c Black) refl
-  where
-    by : (cell : LightCell) → get_or p.cells c Black ≡ cell → number_house p c ≡ []
-    by White e = rw e refl
-    by Black e = rw e refl
-    by (Numbered n) e = absurd (true≢false (rw e at off))
+bare p c off = grind (arith, common_steps)
 
 -- none of the cells of a row that have no number waits
 pub numbers-all : (p : Light) (y word : ℕ) (K : Candidates) → IsRowOf p.size.w (is_numbered p) y word → AreIdleBut p word y K
@@ -27,10 +22,7 @@ numbers-all p y _ K row x lt off = rw (bare p (y * p.size.w + x) (rw (lt-ltb _ _
 -- numbers in some columns wait
 pub numbers-both : (p : Light) (y own columns both : ℕ) (K : Candidates) → IsRowOf p.size.w (is_numbered p) y own → AreIdleBut p columns y K
     → ((k : ℕ) → has_bit both k ≡ (has_bit own k && has_bit columns k)) → AreIdleBut p both y K
-numbers-both p y own columns both K row others is x lt off = elim (cases_Bool (has_bit own x)) [
-  | inr none ↦ numbers-all p y own K row x lt none
-  | inl on ↦ others x lt (rw on at (sym (is x) ∙ off))
-]
+numbers-both p y own columns both K row others is x lt off = grind (arith, common_steps, cases_Bool, numbers-all)
 
 -- ---- the numbers of all rows
 pub numbers-are : (p : Light) → houses_below (numbers_of_row p) p.size.h ≡ houses_below (number_house p) (light_cells p)
@@ -48,29 +40,11 @@ pub record IsLast (places rest : ℕ → Bool) (room last : ℕ) : Type 0 where
 pub last-next : {places rest left : ℕ → Bool} {room next : ℕ} → IsLeast rest room next → ((k : ℕ) → rest k ≡ true → places k ≡ true)
     → ((k : ℕ) → k < room → places k ≡ true → (k < next) ⊎ (rest k ≡ true)) → ((k : ℕ) → left k ≡ (rest k && not (eqb k next)))
     → IsLast places left room next
-last-next {places} {rest} {left} {room} {next} least within others is = record {
-  has = within next least.has;
-  below = λ k lt on. elim (cases_lt next k) [
-    | inr low ↦ inl low
-    | inl high ↦ elim (cases_Bool (left k)) [
-      | inl there ↦ inr there
-      | inr gone ↦ elim (others k lt on) [
-        | inl less ↦ inl (omega arith)
-        | inr there ↦ absurd (true≢false (sym there ∙ rest-off least is high gone))
-      ]
-    ]
-  ];
-  above = λ k on. let w = rest-on least is k on in (w.0, within k w.1);
-}
+last-next {places} {rest} {left} {room} {next} least within others is = grind (arith, common_steps, cases_lt, cases_Bool, rest-off, rest-on)
 
 pub last-more : {places rest left : ℕ → Bool} {room last next : ℕ} → IsLast places rest room last → IsLeast rest room next
     → ((k : ℕ) → left k ≡ (rest k && not (eqb k next))) → IsLast places left room next
-last-more {next = next} is least without =
-    last-next least (λ k on. (is.above k on).1)
-    (λ k lt on. elim (is.below k lt on) [
-      | inl low ↦ inl (omega (arith, low, (is.above next least.has).0))
-      | inr there ↦ inr there
-    ]) without
+last-more {next = next} is least without = grind (arith, common_steps, last-next)
 
 pub last-done : {places rest : ℕ → Bool} {room last : ℕ} → IsLast places rest room last → any_below rest room ≡ false
     → (k : ℕ) → k < room → places k ≡ true → k ≤ last
@@ -81,10 +55,7 @@ last-done {rest = rest} {room = room} is none k lt on = elim (is.below k lt on) 
 
 -- none is below the least
 pub between : {places : ℕ → Bool} {room least : ℕ} → IsLeast places room least → (k : ℕ) → places k ≡ true → least ≤ k
-between {least = least} is k on = elim (cases_lt k least) [
-  | inl less ↦ absurd (true≢false (sym on ∙ is.before k less))
-  | inr more ↦ more
-]
+between {least = least} is k on = grind (arith, common_steps, cases_lt)
 
 -- ---- columns that are white from one row on and before another
 abbrev pub AreWhite : Light → ℕ → ℕ → ℕ → Type 0
@@ -101,9 +72,7 @@ live-first p columns {y} _ live row is x lt on all = is x ∙ and_from _ _ on (r
 pub live-more : (p : Light) (columns : ℕ) {from end y : ℕ} (first last whites before live : ℕ) → IsRowOf p.size.w (white p) y whites
     → ((x : ℕ) → has_bit live x ≡ (has_bit before x && has_bit whites x)) → first ≤ from → end ≤ last → first ≤ y → y < last
     → IsLive p columns from end before → IsLive p columns first last live
-live-more p _ {y} first last _ _ live row is low high at below live_before x lt on all =
-    is x ∙ and_from _ _ (live_before x lt on (λ i le less. all i (omega (arith, low, le)) (omega (arith, high, less))))
-    (row x ∙ and_from _ _ (lt-ltb _ _ lt) (all y at below))
+live-more p _ {y} first last _ _ live row is low high at below live_before x lt on all = grind (arith, common_steps, and_from, lt-ltb)
 
 -- where none is, a row at or before the first is parted from one at or behind the last
 pub live-parted : (p : Light) (columns : ℕ) {from end : ℕ} (live : ℕ) {room x : ℕ} (y k : ℕ) → IsLive p columns from end live → any_below (has_bit live) room ≡ false
@@ -116,10 +85,7 @@ live-parted p _ live {room} {x} y k alive none narrow lt on low high = false_fro
 -- those that a white cell sees are of its row, or joined to it in its column
 seen-parts : (p : Light) (c d : ℕ) → has_place (seen_from p c) d ≡ true → (joined_in_row p c d ≡ true) ⊎ (joined_in_column p c d ≡ true)
 unfolding seen_from
-seen-parts p c d on = elim (place-append (row_run p c) _ d on) [
-  | inl row ↦ inl (row-run-joined p c d row)
-  | inr column ↦ inr (column-run-joined p c d (place-filter _ (column_run p c) d column).0)
-]
+seen-parts p c d on = grind (arith, common_steps, place-append, row-run-joined, column-run-joined, place-filter)
 
 module _ {W : Type 0} (bits : W → ℕ) (p : Light) (lines : Touched W) (lawful : IsLight p) where
   pub away-from : {y x : ℕ} → y < p.size.h → x < p.size.w → (has_bit (bits lines.rows) y ≡ true → ⊥)
@@ -191,13 +157,4 @@ line-one planes (Column x) k x_in lt alive off = elim (alive (k * planes.size.w 
 pub line-must : (planes : Layers) (line : Line) (k : ℕ) → number_of line < lines_beside planes.size line → ArePlanesAlive planes
     → (at_line planes line 1 k ≡ true → k < line_len planes.size line)
     → (at_line planes line 1 k && not (at_line planes line 0 k)) ≡ (ltb k (line_len planes.size line) && not (at_line planes line 0 k))
-line-must planes line k line_in alive within = elim (cases_Bool (at_line planes line 0 k)) [
-  | inl zero ↦ rw zero (by (at_line planes line 1 k) (ltb k (line_len planes.size line)))
-  | inr none ↦ rw none (elim (cases_lt k (line_len planes.size line)) [
-    | inl lt ↦ rw (line-one planes line k line_in lt alive none, lt-ltb _ _ lt) refl
-    | inr out ↦ rw (false_from_ne_true (at_line planes line 1 k) (λ on. absurd (omega (arith, out, within on))), le-ltb _ _ out) refl
-  ])
-]
-  where
-    by : (a b : Bool) → (a && not true) ≡ (b && not true)
-    by a b = grind (arith, common_steps, cases_Bool a, cases_Bool b)
+line-must planes line k line_in alive within = grind (arith, common_steps, cases_Bool, and-false, cases_lt, line-one, lt-ltb, false_from_ne_true, le-ltb)

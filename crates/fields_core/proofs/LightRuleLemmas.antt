@@ -1,5 +1,5 @@
 -- The rules of Light Up, as count houses and as the test of a grid.
-use Rattle.fields_core.proofs.Common.{AllByRecursion, AreDistinct, AreJoined, AreRight, Black, Bool, FailsLight, IsCounting, IsFromTo, IsGrid, IsKnown, IsLawful, IsLight, IsLightCell, IsLightFault, IsLightSolution, IsMade, Kind, Light, LightCell, LightFault, List, NoneFails, Numbered, Option, Sees, SeesBulb, White, [], all_below-at, all_below-from, and_from, and_parts, any_below-here, any_below-some, ap, arith, black_right, bulb, bulb_right, bulbs_beside, cases_eq, cases_lt, column_house, column_run, common_steps, count-lawful, count_by-le-length, distinct-append, distinct-filter, div-mul-add, div-mul-le_self, eq-eqb, eqb, eqb-true, false, filter, get_or, has_place, has_place-here, inl, inr, is_some, joined_in_column, joined_in_row, known_tests, le-div, length, length-append, light_cells, light_column, light_houses, light_row, light_rules, light_tests, lit_house, lit_right, max, min, mod-lt, mod-mul-add, mul-le-mul_right, ne_eqb, none_held, none_tells, not, not-false, not-true, number_house, number_is, number_right, one_at_least, one_at_most, or_cases, or_left, or_parts, or_right, place-append, place-back, place-filter, place-front, place-kept, refl, right_none, row_house, row_run, seen_from, sees, sees_bulb, slice_index, solves_lights, steps, suc, sym, true, true≢false, white, zero, ℕ, ◌%◌, ◌&&◌, ◌*◌, ◌++◌, ◌+◌, ◌/◌, ◌<◌, ◌||◌, ◌∙◌, ◌∷◌, ◌≡◌, ◌≤◌}
+use Rattle.fields_core.proofs.Common.{AllByRecursion, AreDistinct, AreJoined, AreRight, Black, Bool, FailsLight, IsCounting, IsFromTo, IsGrid, IsKnown, IsLawful, IsLight, IsLightCell, IsLightFault, IsLightSolution, IsMade, Kind, Light, LightCell, LightFault, List, NoneFails, Numbered, Option, Sees, SeesBulb, White, [], all_below-at, all_below-from, and_from, and_parts, any_below-here, any_below-some, ap, arith, black_right, bulb, bulb_right, bulbs_beside, cases_eq, cases_lt, column_house, column_run, common_steps, count-lawful, count_by-le-length, distinct-append, distinct-filter, div-mul-add, div-mul-le_self, eq-eqb, eqb, eqb-true, filter, get_or, has_place, has_place-here, inl, inr, is_some, joined_in_column, joined_in_row, known_tests, le-div, length, length-append, light_cells, light_column, light_houses, light_row, light_rules, light_tests, lit_house, lit_right, max, min, mod-lt, mod-mul-add, mul-le-mul_right, ne_eqb, none_held, none_tells, not, not-false, not-true, number_house, number_is, number_right, one_at_least, one_at_most, or_cases, or_left, or_parts, or_right, place-append, place-back, place-filter, place-front, place-kept, refl, right_none, row_house, row_run, seen_from, sees, sees_bulb, slice_index, solves_lights, steps, suc, sym, true, true≢false, white, zero, ℕ, ◌%◌, ◌&&◌, ◌*◌, ◌++◌, ◌+◌, ◌/◌, ◌<◌, ◌||◌, ◌∙◌, ◌∷◌, ◌≡◌, ◌≤◌}
 use Rattle.fields_core.specs.LightHouses.{numbered}
 use Rattle.fields_core.proofs.LightHouseLaws.{IsMet, bulb-in, clear-at, clear-from, column-both, column-distinct, column-of, column-parts, column-white-end, lit-from, lit-parts, met-from, row-both, row-distinct, row-of, row-parts, row-self, row-white-end, some-column, white-in}
 use Rattle.fields_core.proofs.HouseLemmas.{all-append, all-at, all-houses, all-if, column-long, row-long}
@@ -319,12 +319,7 @@ module _ (p : Light) (g : List ℕ) where
 
     number-made : IsMade (FailsLight p g) number
     unfolding number_right
-    number-made = record { failed = λ c lt off. by c _ off refl; held = λ c lt on (n, e, other). other (number-rule n on e) }
-      where
-        by : (c : ℕ) (cell : LightCell) → number_is cell (bulbs_beside p g c) ≡ false → get_or p.cells c Black ≡ cell → FailsLight p g (fault.Number c)
-        by c White off e = absurd (true≢false off)
-        by c Black off e = absurd (true≢false off)
-        by c (Numbered n) off e = (n, e, λ same. true≢false (sym (eq-eqb _ _ same) ∙ off))
+    number-made = grind (arith, common_steps, number-rule, eq-eqb)
 
     seen-made : IsMade (FailsLight p g) seen
     unfolding bulb_right

@@ -16,14 +16,7 @@ pub record AreAroundDone (run : ℕ → ℕ) (room marked rest bits : ℕ) : Typ
       → has_bit (run j) k ≡ false
 
 pub around-none : (run : ℕ → ℕ) (room marked bits : ℕ) → ((k : ℕ) → has_bit bits k ≡ false) → AreAroundDone run room marked marked bits
-around-none run room marked bits none = record {
-  inside = λ k on. on;
-  lower = λ j k on off there. absurd (true≢false (sym on ∙ off));
-  is = λ k. none k ∙ sym (false_from_ne_true _ (λ on.
-      let w = any_below-some (λ j. (has_bit marked j && not (has_bit marked j)) && has_bit (run j) k) room on in
-      let both = and_parts _ _ (and_parts _ _ w.2).0 in true≢false (sym both.0 ∙ not-true _ both.1)));
-  apart = λ j k less on off there. absurd (true≢false (sym on ∙ off));
-}
+around-none run room marked bits none = grind (arith, common_steps, false_from_ne_true, any_below-some, and_parts, not-true)
 
 module _ (run : ℕ → ℕ) (room marked rest bits at later more : ℕ) (done : AreAroundDone run room marked rest bits)
     (least : IsLeast (has_bit rest) room at)
@@ -32,26 +25,7 @@ module _ (run : ℕ → ℕ) (room marked rest bits at later more : ℕ) (done :
   -- another marked number in its run
   pub around-clash : (both : ℕ) → ((k : ℕ) → has_bit both k ≡ (has_bit later k && has_bit (run at) k)) → any_below (has_bit both) room ≡ true
       → IsClash run marked
-  around-clash both both_is some =
-      let w = any_below-some (has_bit both) room some in let parts = and_parts _ _ (sym (both_is w.0) ∙ w.2) in
-      let there = and_parts _ _ (sym (later_is w.0) ∙ parts.0) in
-      record {
-        one = at;
-        other = w.0;
-        after = after w.0 there.0 (not-true _ there.1);
-        one_marked = done.inside at least.has;
-        other_marked = done.inside w.0 there.0;
-        same = parts.1;
-      }
-    where
-      after : (k : ℕ) → has_bit rest k ≡ true → eqb k at ≡ false → at < k
-      after k on ne = elim (cases_lt k at) [
-        | inl less ↦ absurd (true≢false (sym on ∙ least.before k less))
-        | inr from ↦ elim (cases_eq k at) [
-          | inl same ↦ absurd (true≢false (sym (eq-eqb k at same) ∙ ne))
-          | inr other ↦ omega arith
-        ]
-      ]
+  around-clash both both_is some = grind (arith, common_steps, any_below-some, and_parts, not-true, cases_lt, cases_eq, eq-eqb)
 
   pub around-more : (both : ℕ) → ((k : ℕ) → has_bit both k ≡ (has_bit later k && has_bit (run at) k)) → any_below (has_bit both) room ≡ false
       → ((k : ℕ) → has_bit more k ≡ (has_bit bits k || has_bit (run at) k)) → AreAroundDone run room marked later more
@@ -174,9 +148,7 @@ module _ (size : Extent) (line : Line) (n room : ℕ) (cell : ℕ → ℕ) (join
   zeros = zeros_of (has from)
 
   must-at : (k : ℕ) → has_bit must k ≡ true → (k < n) × (zeros (cell k) ≡ false)
-  must-at k on =
-      let w = and_parts _ _ (sym (must_is k) ∙ on) in let lt = ltb-true _ _ w.0 in
-      (lt, sym (are.values from 0 k same_size (omega arith) lt) ∙ not-true _ w.1)
+  must-at k on = grind (arith, common_steps, and_parts, ltb-true, not-true)
 
   must-from : {k : ℕ} → k < n → zeros (cell k) ≡ false → has_bit must k ≡ true
   must-from {k} lt off = must_is k ∙ and_from _ _ (lt-ltb _ _ lt) (ap not (are.values from 0 k same_size (omega arith) lt ∙ off))
@@ -193,9 +165,7 @@ module _ (size : Extent) (line : Line) (n room : ℕ) (cell : ℕ → ℕ) (join
       (are.some clash.one clash.other one.0 other.0 both.1) one.1 other.1 low) alive
     where
       inside : (j k : ℕ) → j < n → k < n → joined j k ≡ true → cell j < cells
-      inside j k lj lk on =
-          let w = some-of (IsRunOf cells n cell joined) (λ house. has_place house.places (cell j) && has_place house.places (cell k)) houses are.each (are.some j k lj lk on) in
-          w.1.is.within (cell j) (and_parts _ _ w.2).0
+      inside j k lj lk on = grind (arith, common_steps, some-of, and_parts)
 
   -- ---- no two: what is around is taken
   pub runs-met : {around : ℕ} (taken : ℕ) {to : Layers} → AreAround run room must around

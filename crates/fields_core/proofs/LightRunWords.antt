@@ -1,6 +1,6 @@
 -- Words of runs along a line, as they are written one after another.
-use Rattle.fields_core.proofs.Common.{AreFilled, AreWritten, Bool, Candidates, Extent, IsColumnOf, IsColumnRun, IsLeast, IsRowOf, IsRowRun, IsRunAt, Layers, Light, List, all_of, and-false, and_from, and_parts, any_below, any_below-none, ap, arith, bit_of, cases_Bool, cases_eq, cases_lt, clear, common_steps, div-mul-add, eq-eqb, eqb, false, false_from_ne_true, get_or-set_other, get_or-set_same, has, has_bit, inl, inr, joined_in_column, joined_in_row, le-ltb, length, length-map, length-set, light_cells, light_rules, lt-ltb, ltb, ltb-true, map, map-set, mul-le-mul_right, ne_eqb, not, not-true, place-column, place-in, refl, set, slice_index, start_of, subst, sym, true, true≢false, white, ℕ, ◌%◌, ◌&&◌, ◌*◌, ◌+◌, ◌-◌, ◌/◌, ◌<◌, ◌∙◌, ◌≡◌, ◌≢◌, ◌≤◌}
-use Rattle.fields_core.proofs.CellLemmas.{has-at, same-truth}
+use Rattle.fields_core.proofs.Common.{AreFilled, AreWritten, Bool, Candidates, Extent, IsColumnOf, IsColumnRun, IsLeast, IsRowOf, IsRowRun, IsRunAt, Layers, Light, List, ℕ, all_of, and-false, and-true, and_from, and_parts, any_below, any_below-none, ap, arith, bit_of, cases_Bool, cases_eq, cases_lt, clear, common_steps, div-mul-add, eq-eqb, eqb, false, false_from_ne_true, get_or-set_other, get_or-set_same, has, has_bit, inl, inr, joined_in_column, joined_in_row, le-ltb, length, length-map, length-set, light_cells, light_rules, lt-ltb, ltb, ltb-true, map, map-set, mul-le-mul_right, ne_eqb, not, not-false, not-true, place-column, place-in, refl, set, slice_index, start_of, subst, sym, true, true≢false, white, ◌%◌, ◌&&◌, ◌*◌, ◌+◌, ◌-◌, ◌/◌, ◌<◌, ◌∙◌, ◌≡◌, ◌≢◌, ◌≤◌}
+use Rattle.fields_core.proofs.CellLemmas.{has-at, same-truth, second-off}
 use Rattle.fields_core.proofs.LightHouseLaws.{clear-at, clear-from}
 use Rattle.fields_core.proofs.RunLemmas.{column-cell-joined, row-cell-joined}
 
@@ -49,20 +49,11 @@ pub record AreLeft (test : ℕ → Bool) (len at left : ℕ) : Type 0 where
   pub rest : (k : ℕ) → has_bit left k ≡ ((ltb k len && not (ltb k at)) && not (test k))
 
 pub left-all : (test : ℕ → Bool) (len left : ℕ) → ((k : ℕ) → has_bit left k ≡ (ltb k len && not (test k))) → AreLeft test len 0 left
-left-all test len left told = record {
-  before = λ j e. absurd (omega arith);
-  rest = λ k. told k ∙ rw (le-ltb k 0 (omega arith)) (by (ltb k len) (test k));
-}
-  where
-    by : (a b : Bool) → (a && not b) ≡ ((a && not false) && not b)
-    by a b = grind (arith, common_steps, cases_Bool a)
+left-all test len left told = grind (arith, common_steps, le-ltb, and-true)
 
 module _ {test : ℕ → Bool} {len at left : ℕ} (are : AreLeft test len at left) where
   left-off : {i : ℕ} → at ≤ i → i < len → has_bit left i ≡ false → test i ≡ true
-  left-off {i} low high none = by (test i) (sym (are.rest i ∙ rw (lt-ltb _ _ high, le-ltb i at low) refl) ∙ none)
-    where
-      by : (a : Bool) → ((true && not false) && not a) ≡ false → a ≡ true
-      by a e = grind (arith, common_steps, cases_Bool a)
+  left-off {i} low high none = not-false _ (second-off (and_from _ _ (lt-ltb _ _ high) (ap not (le-ltb i at low))) (sym (are.rest i) ∙ none))
 
   pub run-last : {room : ℕ} → at ≤ len → len ≤ room → any_below (has_bit left) room ≡ false → IsRunFrom test len at len
   run-last {room} low fits none = record {
@@ -75,47 +66,10 @@ module _ {test : ℕ → Bool} {len at left : ℕ} (are : AreLeft test len at le
 
   module _ {room least : ℕ} (is : IsLeast (has_bit left) room least) where
     pub run-least : (least < len) × (test least ≡ false) × IsRunFrom test len at least
-    run-least =
-        let there = and_parts _ _ (sym (are.rest least) ∙ is.has) in
-        let inside = and_parts _ _ there.0 in let high : least < len = ltb-true _ _ inside.0 in
-        let low : at ≤ least = (elim (cases_lt least at) [
-          | inl less ↦ absurd (true≢false (sym (lt-ltb least at less) ∙ not-true _ inside.1))
-          | inr more ↦ more
-        ]) in
-        let off = not-true _ there.1 in (
-          high,
-          off,
-          record {
-            low = low;
-            high = omega arith;
-            before = are.before;
-            pass = λ i from up. left-off from (omega arith) (is.before i up);
-            edge = λ _. off;
-          },
-        )
+    run-least = grind (arith, common_steps, and_parts, ltb-true, cases_lt, lt-ltb, not-true, left-off)
 
     pub left-next : {next : ℕ} → ((k : ℕ) → has_bit next k ≡ (has_bit left k && not (eqb k least))) → AreLeft test len (least + 1) next
-    left-next told = record {
-      before = λ j e. let same : j ≡ least = omega arith in rw same run-least.1;
-      rest = λ k. told k ∙ elim (cases_lt k least) [
-        | inl less ↦ rw (is.before k less, lt-ltb k (least + 1) (omega arith)) (none (ltb k len) (test k))
-        | inr more ↦ elim (cases_eq k least) [
-          | inl same ↦ rw (eq-eqb _ _ same, lt-ltb k (least + 1) (omega arith)) (gone (has_bit left k) (ltb k len) (test k))
-          | inr other ↦
-              let low = run-least.2.low in
-              rw (are.rest k, ne_eqb _ _ other, le-ltb k at (omega arith), le-ltb k (least + 1) (omega arith)) (stays (ltb k len) (test k))
-        ]
-      ];
-    }
-      where
-        none : (a b : Bool) → false ≡ ((a && not true) && not b)
-        none a b = grind (arith, common_steps, cases_Bool a)
-
-        gone : (l a b : Bool) → (l && not true) ≡ ((a && not true) && not b)
-        gone l a b = grind (arith, common_steps, cases_Bool a, cases_Bool l)
-
-        stays : (a b : Bool) → (((a && not false) && not b) && not false) ≡ ((a && not false) && not b)
-        stays a b = grind (arith, common_steps, cases_Bool a, cases_Bool b)
+    left-next told = grind (arith, common_steps, run-least, cases_lt, lt-ltb, and-false, cases_eq, eq-eqb, ne_eqb, le-ltb, and-true)
 
 -- ---- the words of a line
 pub written-none : {test : ℕ → Bool} {len first stride : ℕ} {words : List ℕ} → AreWritten test len first stride 0 words words
@@ -152,23 +106,7 @@ words-more bits {test} {len} {first} {stride} {n} {place} {from} words word e so
 pub filled-more : {W : Type 0} (bits : W → ℕ) {first stride start n : ℕ} {from : List ℕ} (words : List W) (word : W)
     → start ≤ n → first + n * stride < length words → AreFilled first stride start n (bits word) from (map bits words)
     → AreFilled first stride start (n + 1) (bits word) from (map bits (set words (first + n * stride) word))
-filled-more bits {first} {stride} {n} words word low there is = rw (map-set bits words (first + n * stride) word) (record {
-  each = λ i above below. elim (cases_eq (first + i * stride) (first + n * stride)) [
-    | inl e ↦ rw e (get_or-set_same to (first + n * stride) (bits word) 0 inside)
-    | inr ne ↦
-        get_or-set_other to (first + n * stride) (first + i * stride) (bits word) 0 ne
-        ∙ is.each i above (elim (cases_eq i n) [ inl same ↦ absurd (ne (ap (λ k. first + k * stride) same)) | inr other ↦ omega arith ])
-  ];
-  others = λ c out.
-      get_or-set_other to (first + n * stride) c (bits word) 0 (λ e. out n low (omega arith) (sym e))
-      ∙ is.others c (λ i above below. out i above (omega arith));
-})
-  where
-    to : List ℕ
-    to = map bits words
-
-    inside : first + n * stride < length to
-    inside = omega (arith, there, length-map words bits)
+filled-more bits {first} {stride} {n} words word low there is = grind (arith, common_steps, map-set, cases_eq, get_or-set_same, get_or-set_other, length-map)
 
 pub written-filled : {test : ℕ → Bool} {len first stride start end bits : ℕ} {from mid to : List ℕ} → 0 < stride
     → IsRunFrom test len start end → ((k : ℕ) → has_bit bits k ≡ (ltb k end && not (ltb k start)))
@@ -239,10 +177,7 @@ columns-written p {x} whites from to low are before is c lt less = elim (cases_e
     apart i e = let f : x + i * p.size.w ≡ i * p.size.w + x = omega arith in ap (λ n. n % p.size.w) (sym e ∙ f) ∙ place-column p.size.w i x low
 
     row-in : (i : ℕ) → i * p.size.w + x ≡ c → i < p.size.h
-    row-in i e = elim (cases_lt i p.size.h) [
-      | inl inside ↦ inside
-      | inr past ↦ let m : p.size.h * p.size.w ≤ i * p.size.w = mul-le-mul_right p.size.w past in absurd (omega arith)
-    ]
+    row-in i e = grind (arith, common_steps, cases_lt, mul-le-mul_right)
 
 -- the cells of a column that can be 1 on the board that a search starts from
 pub column-whites : (p : Light) (planes : Layers) (x word : ℕ) → planes.size ≡ p.size → has planes ≡ (light_rules p).start → x < p.size.w

@@ -1,9 +1,9 @@
 -- Light Up: words of the cells that a cell sees, and runs that are safe.
-use Rattle.fields_core.proofs.Common.{AreSafe, AreSafeInColumns, Bool, Candidates, IsColumnRun, IsLeast, IsRowOf, IsRowRun, Layers, Light, List, and_parts, any_below, any_below-none, any_below-some, ap, arith, bit_of, cases_Bool, cases_eq, common_steps, cond, count_below, count_below-few, count_below-lt, count_below-pos, div-mul-add, eq-eqb, eqb, eqb-true, false, get_or, get_or-set_other, get_or-set_same, has, has_bit, inl, inr, joined_in_column, joined_in_row, le-ltb, least_below, least_below-passes, length, length-map, light_cells, lt-ltb, ltb, ltb-true, map, map-set, mod-mul-add, not, not-true, or_cases, place-in, refl, set, slice_index, suc, sym, true, true≢false, white, zero, ℕ, ◌%◌, ◌&&◌, ◌*◌, ◌+◌, ◌<◌, ◌||◌, ◌∙◌, ◌≡◌, ◌≢◌, ◌≤◌}
+use Rattle.fields_core.proofs.Common.{AreSafe, AreSafeInColumns, Bool, Candidates, IsColumnRun, IsLeast, IsRowOf, IsRowRun, Layers, Light, List, ℕ, and-false, and_parts, any_below, any_below-none, any_below-some, ap, arith, bit_of, cases_Bool, cases_eq, common_steps, cond, count_below, count_below-few, count_below-lt, count_below-pos, div-mul-add, eq-eqb, eqb, eqb-true, false, get_or, get_or-set_other, get_or-set_same, has, has_bit, inl, inr, joined_in_column, joined_in_row, le-ltb, least_below, least_below-passes, length, length-map, light_cells, lt-ltb, ltb, ltb-true, map, map-set, mod-mul-add, not, not-false, not-true, or_cases, place-in, refl, set, slice_index, suc, sym, true, true≢false, white, zero, ◌%◌, ◌&&◌, ◌*◌, ◌+◌, ◌<◌, ◌||◌, ◌∙◌, ◌≡◌, ◌≢◌, ◌≤◌}
 use Rattle.fields_core.proofs.PlaceLists.{num}
 use Rattle.fields_core.proofs.VisitLemmas.{IsFull}
 use Rattle.fields_core.proofs.LightHouseLaws.{column-both, column-next, column-self, row-both}
-use Rattle.fields_core.proofs.CellLemmas.{has-at, row-read}
+use Rattle.fields_core.proofs.CellLemmas.{has-at, row-read, second-off}
 use Rattle.fields_core.proofs.LightRunOrder.{column-white-start}
 
 -- Words of the cells that a cell of Light Up sees.
@@ -24,19 +24,13 @@ two-but {passes} left {n} {least} is rest = elim (cases_Bool (any_below left n))
   | inl on ↦
       let k = any_below-some left n on in let more = count_below-pos left n k.0 k.1 k.2 in
       let less = count_below-lt left passes n least (λ v _ there. (and_parts _ _ (sym (rest v) ∙ there)).0) is.within
-      (rest least ∙ rw (eq-eqb least least refl) (none (passes least))) is.has in
+      (rest least ∙ rw (eq-eqb least least refl) (and-false (passes least))) is.has in
       on ∙ sym (lt-ltb 1 (count_below passes n) (omega arith))
   | inr off ↦
-      let one : (k : ℕ) → k < n → passes k ≡ true → k ≡ least = λ k lt on. eqb-true _ _ (only (passes k) (eqb k least) on (sym (rest k) ∙ any_below-none left n off k lt)) in
+      let one : (k : ℕ) → k < n → passes k ≡ true → k ≡ least = λ k lt on. eqb-true _ _ (not-false _ (second-off on (sym (rest k) ∙ any_below-none left n off k lt))) in
       let few = count_below-few passes n (λ j k lj lk on_j on_k. one j lj on_j ∙ sym (one k lk on_k)) in
       off ∙ sym (le-ltb _ _ few)
 ]
-  where
-    none : (a : Bool) → (a && not true) ≡ false
-    none a = grind (arith, common_steps, cases_Bool a)
-
-    only : (a b : Bool) → a ≡ true → (a && not b) ≡ false → b ≡ true
-    only a b on off = grind (arith, common_steps, cases_Bool b)
 
 pub two-left : (passes left : ℕ → Bool) (n : ℕ) → any_below passes n ≡ true
     → ((least k : ℕ) → IsLeast passes n least → left k ≡ (passes k && not (eqb k least)))
@@ -64,8 +58,7 @@ must-safe : {cells : ℕ → Bool} {K : Candidates} (c : ℕ) → cells c ≡ tr
 must-safe c there on off = record { one = c; other = c; one_in = there; other_in = there; one_on = on; other_on = on; apart = inr off }
 
 two-safe : {cells : ℕ → Bool} {K : Candidates} (c d : ℕ) → c < d → cells c ≡ true → cells d ≡ true → K c 1 ≡ true → K d 1 ≡ true → AreSafe cells K
-two-safe c d less in_c in_d on_c on_d =
-    record { one = c; other = d; one_in = in_c; other_in = in_d; one_on = on_c; other_on = on_d; apart = inl (λ e. absurd (omega (arith, e, less))) }
+two-safe c d less in_c in_d on_c on_d = grind (arith, common_steps)
 
 -- ---- the runs of a cell as words
 module _ (p : Light) (y x : ℕ) (x_in : x < p.size.w) where
@@ -77,8 +70,7 @@ module _ (p : Light) (y x : ℕ) (x_in : x < p.size.w) where
 
   module _ (run : ℕ) (is : IsRowRun p cell run) where
     row-there : (k : ℕ) → has_bit run k ≡ true → (k < p.size.w) × (joined_in_row p cell (y * p.size.w + k) ≡ true)
-    row-there k on =
-        let parts = and_parts _ _ (sym (is k) ∙ on) in (ltb-true _ _ parts.0, rw (div-mul-add y p.size.w x x_in) at parts.1)
+    row-there k on = grind (arith, common_steps, and_parts, ltb-true, div-mul-add)
 
     -- two of its cells that can have a bulb, or one that must
     pub row-two : (planes : Layers) (bits room : ℕ) → planes.size ≡ p.size → ((k : ℕ) → has_bit bits k ≡ (bit_of planes.rows y 1 k && has_bit run k)) → 1 < count_below (has_bit bits) room
@@ -114,15 +106,7 @@ module _ (p : Light) (y x : ℕ) (x_in : x < p.size.w) where
 
 -- the same of another cell that is joined to them
 pub safe-moved : {joined other : ℕ → Bool} {K : Candidates} → ((c : ℕ) → joined c ≡ true → other c ≡ true) → AreSafe joined K → AreSafe other K
-safe-moved move safe = record {
-  one = safe.one;
-  other = safe.other;
-  one_in = move safe.one safe.one_in;
-  other_in = move safe.other safe.other_in;
-  one_on = safe.one_on;
-  other_on = safe.other_on;
-  apart = safe.apart;
-}
+safe-moved move safe = grind (arith, common_steps)
 
 -- of another cell of the run
 pub row-moved : (p : Light) (y : ℕ) {x : ℕ} (k : ℕ) (x_in : x < p.size.w) (run : ℕ) → IsRowRun p (y * p.size.w + x) run → has_bit run k ≡ true → {K : Candidates}
@@ -153,9 +137,7 @@ module _ (p : Light) (K : Candidates) (j whites : ℕ) (ones zeros : ℕ → Boo
   at x = omega arith
 
   up : (x d : ℕ) → has_bit whites x ≡ true → joined_in_column p ((j + 1) * p.size.w + x) d ≡ true → joined_in_column p (j * p.size.w + x) d ≡ true
-  up x d on joined =
-      let below = rw (at x) at joined in
-      joined-up p (j * p.size.w + x) some (here x on).1 (column-white-start p (j * p.size.w + x + p.size.w) d below) d below
+  up x d on joined = grind (arith, common_steps, joined-up, column-white-start)
 
   pub one-up : (now : ℕ) → ((x : ℕ) → has_bit now x ≡ ((has_bit one x || ones x) && has_bit whites x)) → HaveOneBelow p j now K
   one-up now is x on =

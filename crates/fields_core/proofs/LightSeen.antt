@@ -9,13 +9,7 @@ use Rattle.std.specs.Option.{unwrap_or}
 -- ---- the run around a white cell
 module _ (white bulb : ℕ → Bool) {len at start end : ℕ} (run : IsAround white len at start end) where
   pub run-bulb : {i : ℕ} → start ≤ i → i < end → i ≢ at → bulb i ≡ true → ShinesAlong white bulb at len true
-  run-bulb {i} low high ne on = (
-    i,
-    omega (arith, run.high),
-    ne,
-    clear-from white at i (λ k a b. run.pass k (omega (arith, run.low)) (omega (arith, run.past))),
-    on,
-  )
+  run-bulb {i} low high ne on = grind (arith, common_steps, clear-from)
 
   pub run-dark : ((i : ℕ) → start ≤ i → i < end → i ≢ at → bulb i ≡ false) → ShinesAlong white bulb at len false
   run-dark dark i lt ne joined = let here = around-joined run lt joined in dark i here.0 here.1 ne
@@ -31,9 +25,7 @@ module _ (p : Light) (g : List ℕ) {c at n : ℕ} (first stride : ℕ) (joined 
     (lies : (d : ℕ) → d < light_cells p → joined c d ≡ true → (k : ℕ) × (k < n) × (first + k * stride ≡ d)) (here : first + at * stride ≡ c) where
   line-sees : (b : Bool) → ShinesAlong (λ i. white p (first + i * stride)) (λ i. bulb g (first + i * stride)) at n b → SeesAlong joined (light_cells p) g c b
   line-sees true s = (first + s.0 * stride, inside s.0 s.1, own s.0 s.2, sym (joins s.0 s.1) ∙ s.3, s.4)
-  line-sees false s = λ d lt ne on.
-      let w = lies d lt on in
-      ap (bulb g) (sym w.2) ∙ s w.0 w.1 (λ e. ne (sym w.2 ∙ ap (λ k. first + k * stride) e ∙ here)) (joins w.0 w.1 ∙ ap (joined c) w.2 ∙ on)
+  line-sees false s = grind (arith, common_steps)
 
 pub row-sees : (p : Light) (g : List ℕ) {c : ℕ} (b : Bool) → 0 < p.size.w → c < light_cells p
     → ShinesAlong (λ i. white p (c / p.size.w * p.size.w + i * 1)) (λ i. bulb g (c / p.size.w * p.size.w + i * 1)) (c % p.size.w) p.size.w b
@@ -105,18 +97,8 @@ black-unseen p g c off = unseen p g c (λ d lt ne joined. elim (or_cases _ _ joi
 -- What the next number that passes a test tells of a line.
 -- the first number after `at` that fails ends the run
 pub run-on : (test : ℕ → Bool) (len at : ℕ) (found : Option ℕ) → at < len → IsNext (λ i. not (test i)) len (at + 1) found → RunsOn test len at (unwrap_or found len)
-run-on test len at None lt next = record {
-  past = lt;
-  high = omega arith;
-  pass = λ i low high. not-false _ (next i (omega arith) high);
-  edge = λ more. absurd (omega arith);
-}
-run-on test len at (Some k) lt next = record {
-  past = omega (arith, next.0);
-  high = omega (arith, next.1);
-  pass = λ i low high. not-false _ (next.3 i (omega arith) high);
-  edge = λ more. not-true _ next.2;
-}
+run-on test len at None lt next = grind (arith, common_steps, not-false)
+run-on test len at (Some k) lt next = grind (arith, common_steps, not-false, not-true)
 
 -- so many numbers before `at` pass, one after another
 pub back-few : (test : ℕ → Bool) (at : ℕ) (found : Option ℕ) → IsNext (λ back. not (test (at - back - 1))) at 0 found → unwrap_or found at ≤ at
@@ -143,21 +125,8 @@ shines-along white bulb (Some k) run next = let parts = and_parts _ _ next.2 in 
 
 pub tent-among : (g : List ℕ) (place from end : ℕ) (found : Option ℕ) → IsNext (λ d. not (d == place) && tent g d) end from found → IsTentAmong g place from end (is_some found)
 tent-among g place from end None next = record { some = λ on. absurd (false≢true on); none = λ off d low high ne. rw (ne_eqb _ _ ne) at (next d low high) }
-tent-among g place from end (Some k) next = let parts = and_parts _ _ next.2 in record {
-  some = λ on. (k, next.0, next.1, eqb-false k place (not-true _ parts.0), parts.1);
-  none = λ off. absurd (true≢false off);
-}
+tent-among g place from end (Some k) next = grind (arith, common_steps, and_parts, eqb-false, not-true)
 
 -- what ends a run on both sides of a white cell is around it
 pub around-from : {test : ℕ → Bool} {len at start end : ℕ} → RunsBack test at start → RunsOn test len at end → test at ≡ true → IsAround test len at start end
-around-from {test} {at} {start} {end} back on white = record {
-  low = back.low;
-  past = on.past;
-  high = on.high;
-  pass = λ i low high. elim (cases_lt i at) [
-    | inl before ↦ back.pass i low before
-    | inr past ↦ elim (cases_eq i at) [ inl here ↦ rw here white | inr other ↦ on.pass i (omega (arith, past, other)) high ]
-  ];
-  first = back.edge;
-  last = on.edge;
-}
+around-from {test} {at} {start} {end} back on white = grind (arith, common_steps, cases_lt, cases_eq)

@@ -1,5 +1,5 @@
 -- Light Up: what waits, and sweeps of its houses on planes.
-use Rattle.fields_core.proofs.Common.{AllByRecursion, AreIdle, AreIdleBut, AreLightsReady, AreLinesOf, AreLinesRested, AreLinesWoken, ArePlanesAlive, ArePlanesOf, AreSafe, AreVisited, Black, Bool, Candidates, CountHouse, HasBoard, IsAway, IsClosed, IsClosedAround, IsFurther, IsInside, IsLight, IsLostIn, IsReach, IsSweep, Layers, Light, LightCell, List, Numbered, RunKind, Touched, White, ℕ, after_houses, any_below, any_below-none, ap, append_assoc, arith, back_at, cases_Bool, cases_eq, column_house, column_run, common_steps, div-mul-add, eqb, eqb-true, exactly, false, false_from_ne_true, filter, get_or, has, has_bit, has_place, houses_below, inl, inr, joined_in_column, joined_in_row, length, light_cells, light_counts, light_houses, light_rules, lit_house, lits_of_row, mod-lt, ne_eqb, not, number_house, numbers_of_row, one_at_least, or_left, or_parts, or_right, place-back, place-column, place-filter, place-front, place-in, place-kept, refl, row_house, row_run, row_runs_of_row, run_houses, run_lines, seen_from, solves_lights, steps, suc, sym, true, true≢false, waiting_runs, white, white_houses, zero, ◌%◌, ◌&&◌, ◌*◌, ◌++◌, ◌+◌, ◌/◌, ◌<◌, ◌||◌, ◌∙◌, ◌≡◌, ◌≤◌, ◌⊎◌}
+use Rattle.fields_core.proofs.Common.{AllByRecursion, AreIdle, AreIdleBut, AreLightsReady, AreLinesOf, AreLinesRested, AreLinesWoken, ArePlanesAlive, ArePlanesOf, AreSafe, AreVisited, Black, Bool, Candidates, CountHouse, HasBoard, IsAway, IsClosed, IsClosedAround, IsFurther, IsInside, IsLight, IsLostIn, IsReach, IsSweep, Layers, Light, LightCell, List, Numbered, RunKind, Touched, White, ℕ, after_houses, any_below, any_below-none, ap, append_assoc, arith, back_at, cases_Bool, cases_eq, column_house, common_steps, div-mul-add, eqb, eqb-true, exactly, false, false_from_ne_true, filter, get_or, has, has_bit, has_place, houses_below, inl, inr, joined_in_column, joined_in_row, length, light_cells, light_counts, light_houses, light_rules, lit_house, lits_of_row, mod-lt, ne_eqb, not, number_house, numbers_of_row, one_at_least, or_left, or_parts, or_right, place-back, place-column, place-filter, place-front, place-in, place-kept, refl, row_house, row_run, row_runs_of_row, run_houses, run_lines, seen_from, solves_lights, steps, suc, sym, true, true≢false, waiting_runs, white, white_houses, zero, ◌%◌, ◌&&◌, ◌*◌, ◌++◌, ◌+◌, ◌/◌, ◌<◌, ◌||◌, ◌∙◌, ◌≡◌, ◌≤◌, ◌⊎◌}
 use Rattle.fields_core.specs.declared.planes.light_up.waits.LineWaits.{LineWaits}
 use Rattle.fields_core.specs.declared.planes.light_up.waits.RunKind.TheVariants.{Columns, Rows}
 unfoldable use Rattle.fields_core.proofs.IdleLemmas.{any_has}
@@ -17,6 +17,7 @@ use Rattle.fields_core.proofs.PartLemmas.{value-in}
 use Rattle.fields_core.specs.declared.planes.light_up.light_notes.LightNotes.{LightNotes}
 use Rattle.fields_core.proofs.HouseOrder.{IsSingle, alls-quiet, quiet-done, quiet-one, quiet-stays, singles-quiet}
 use Rattle.fields_core.proofs.HouseLemmas.{all-houses, all-if}
+use Rattle.fields_core.proofs.CellLemmas.{first-off}
 
 -- What waits of Light Up: where numbers and runs lie, what stays idle, white cells too, and what is idle where a closing begins.
 module _ (p : Light) (lawful : IsLight p) (c : ℕ) (is_white : white p c ≡ true) where
@@ -33,12 +34,7 @@ module _ (p : Light) (lawful : IsLight p) (c : ℕ) (is_white : white p c ≡ tr
 
   pub seen-in-column : (d : ℕ) → joined_in_column p c d ≡ true → has_place (seen_from p c) d ≡ true
   unfolding seen_from
-  seen-in-column d joined = elim (cases_eq d c) [
-    | inl same ↦ place-front (row_run p c) _ d (rw same (in-row-run p c c some (row-self p c is_white)))
-    | inr other ↦
-        let within = white-in p d (light-board lawful).long (column-white-end p c d some joined) in
-        place-back (row_run p c) _ d (place-kept _ (column_run p c) d (in-column-run p c some within joined) (ap not (ne_eqb _ _ other)))
-  ]
+  seen-in-column d joined = grind (arith, common_steps, cases_eq, place-front, in-row-run, row-self, white-in, light-board, column-white-end, place-back, place-kept, in-column-run, ne_eqb)
 
 -- ---- a run with two cells that can have a bulb, or one that must, leaves the houses of its cells idle
 run-safe : {p : Light} (c : ℕ) {K : Candidates} {joined : ℕ → Bool} → IsLight p → IsFull (light_cells p) K
@@ -224,13 +220,7 @@ module _ {W : Type 0} (bits : W → ℕ) (p : Light) (before now : LineWaits W) 
   runs-settled Columns k lt off = rested.runs Columns k lt (rw columns at off)
 
   numbers-settled : (k : ℕ) → k < p.size.h → has_bit (bits now.numbers) k ≡ false → AreIdle (numbers_of_row p k) K
-  numbers-settled k lt off = elim (cases_Bool (eqb k y)) [
-    | inl own ↦ rw (eqb-true _ _ own) idle
-    | inr other ↦ rested.numbers k lt (by (has_bit (bits before.numbers) k) (sym (numbers k ∙ rw other refl) ∙ off))
-  ]
-    where
-      by : (a : Bool) → (a && not false) ≡ false → a ≡ false
-      by a e = grind (arith, common_steps, cases_Bool a)
+  numbers-settled k lt off = grind (arith, common_steps, cases_Bool, eqb-true, first-off)
 
   pub last-settled : p.size.h ≤ room → any_below (has_bit (bits now.numbers)) room ≡ false → AreLinesRested bits p now K
   last-settled low none = record {
@@ -336,31 +326,14 @@ lights-swept p {from} {to} {fills} size visited =
 
 -- ---- what is kept
 pub planes-next : {room : ℕ} {p : Light} {from to : Layers} → ArePlanesOf room p from → IsFurther from to → ArePlanesAlive to → ArePlanesOf room p to
-planes-next of further alive = record {
-  lawful = of.lawful;
-  narrow = of.narrow;
-  low = of.low;
-  size = further.same_size ∙ of.size;
-  alive = alive;
-}
+planes-next of further alive = grind (arith, common_steps)
 
 -- what does not wait is idle again
 pub ready-next : {W : Type 0} {bits : W → ℕ} {room : ℕ} {p : Light} {from to : Layers} {notes : LightNotes W} → AreLightsReady bits room p from notes
     → IsFurther from to → ArePlanesAlive to → (now : LightNotes W) → now.tables ≡ notes.tables → length now.safe.items ≡ length notes.safe.items
     → AreLinesRested bits p now.waits (has to) → AreLightsReady bits room p to now
-ready-next {bits = bits} {room = room} {p = p} ready further alive now tables long rested = record {
-  planes_of = planes-next ready.planes_of further alive;
-  tables = rw tables ready.tables;
-  safe_long = rw long ready.safe_long;
-  rested = rested;
-}
+ready-next {bits = bits} {room = room} {p = p} ready further alive now tables long rested = grind (arith, common_steps, planes-next)
 
 -- ---- what a closing asks of planes
 pub planes-of : {room : ℕ} {p : Light} {planes : Layers} → IsLight p → HasBoard (light_rules p) p.size room planes → ArePlanesOf room p planes
-planes-of {planes = planes} lawful has_board = record {
-  lawful = lawful;
-  narrow = has_board.suited.0;
-  low = has_board.suited.1;
-  size = has_board.same_size;
-  alive = cells-alive planes has_board.cells has_board.board.alive;
-}
+planes-of {planes = planes} lawful has_board = grind (arith, common_steps, cells-alive)

@@ -79,16 +79,13 @@ counted-next {p} {n} ones both none {room} {piece} e are lt fits ones_is both_is
     crosses-both p piece.line piece.bits ones 1 c (omega arith) ones_is ∙ ap (λ b. b && has p c 1) (sym (lies-is p.size.w piece c)) in
     let both_at : (c : ℕ) → crosses piece.line both (c / p.size.w) (c % p.size.w) ≡ (lies_in p.size.w piece c && is_open (has p) c) = λ c.
     crosses-both p piece.line ones both 0 c (omega arith) (λ k. both_is k ∙ rw (none_is k) (and_comm (has_bit ones k) (at_line p piece.line 0 k)))
-    ∙ rw (one_at c) (by (lies_in p.size.w piece c) (has p c 1) (has p c 0)) in
+    ∙ rw (one_at c) (grind (arith, common_steps, cases_Bool (lies_in p.size.w piece c), cases_Bool (has p c 1), cases_Bool (has p c 0))) in
     record {
       may_is = rw (first.may_is) (counted-more p n ones (λ c. has p c 1) e are lt fits within one_at);
       undecided_is =
           rw (first.undecided_is) (counted-more p n both (λ c. is_open (has p) c)
           e are lt fits (λ k on. within k (and_parts _ _ (sym (both_is k) ∙ on)).0) both_at);
     }
-  where
-    by : (a b c : Bool) → ((a && b) && c) ≡ (a && (c && b))
-    by a b c = grind (arith, common_steps, cases_Bool a, cases_Bool b, cases_Bool c)
 
 pub counted-small : {p : Layers} {pieces : List Piece} {n may undecided : ℕ} → IsCount p pieces n may undecided → (may ≤ cells_of p) × (undecided ≤ cells_of p)
 counted-small {p} {pieces} {n} counted = grind (arith, common_steps, count_below-bound, has)
@@ -204,15 +201,7 @@ none-undecided {p} {pieces} c at of counted none = false_from_ne_true _ (λ on.
 pub bound-reached : {least most must may value : ℕ} → ((least < may) × (most ≤ must)) ⊎ (may ≤ least) → least ≤ may → must ≤ most → must < may → least ≤ most
     → (must ≡ most → value ≡ 1) → ((must ≡ most → ⊥) → value ≡ 0)
     → (value < 2) × ((v : ℕ) → v < 2 → at_bound least most must may v ≡ eqb v value)
-bound-reached {least} {most} {must} {may} {value} reached enough spare room order one none = elim (cases_eq must most) [
-  | inl e ↦ (omega (arith, one e), λ v low. rw (one e) (grind (arith, common_steps, eq-eqb, ne_eqb)))
-  | inr ne ↦
-      let last : may ≡ least = (elim reached [
-        | inl both ↦ absurd (ne (omega (arith, both.1, spare)))
-        | inr few ↦ omega (arith, few, enough)
-      ]) in
-      (omega (arith, none ne), λ v low. rw (none ne) (grind (arith, common_steps, ne_eqb, eq-eqb)))
-]
+bound-reached {least} {most} {must} {may} {value} reached enough spare room order one none = grind (arith, common_steps, cases_eq, eq-eqb, ne_eqb)
 
 -- ---- strikes
 pub struck-more : (p q : Layers) (pieces : List Piece) (n : ℕ) {value : ℕ} (other : ℕ) {piece : Piece}
@@ -235,10 +224,7 @@ struck-more p q pieces n {value} other {piece} e size lt left is = fun_ext λ c.
     c = ap (λ (s : Extent). crosses piece.line piece.bits (c / s.w) (c % s.w)) size
     ∙ sym (lies-is p.size.w piece c) in
     rw (both, first, stays, at, lies-more p.size.w pieces n c e)
-    (by (has p c v) (eqb v value) (has p c (1 - value)) (lies_in_first p.size.w pieces n c) (lies_in p.size.w piece c))
-  where
-    by : (a e o f i : Bool) → ((a && not (e && (o && f))) && not (e && (i && o))) ≡ (a && not (e && (o && (f || i))))
-    by a e o f i = grind (arith, common_steps, cases_Bool a, cases_Bool e, cases_Bool o, cases_Bool f, cases_Bool i)
+    (grind (arith, common_steps, cases_Bool (has p c v), cases_Bool (eqb v value), cases_Bool (has p c (1 - value)), cases_Bool (lies_in_first p.size.w pieces n c), cases_Bool (lies_in p.size.w piece c)))
 
 pub struck-none : (w : ℕ) (pieces : List Piece) (value : ℕ) {K : Candidates} → K ≡ without_value w pieces 0 value K
 unfolding without_value lies_in_first any_below
@@ -248,11 +234,4 @@ struck-none w pieces value = grind (arith, common_steps)
 pub struck-alive : (p q : Layers) (pieces : List Piece) (n value : ℕ) → q.size ≡ p.size → value < 2
     → ArePlanesAlive p → has q ≡ without_value p.size.w pieces n value (has p) → ArePlanesAlive q
 unfolding without_value
-struck-alive p q pieces n value size lt alive left c lc = by value lt (λ v. ap (λ L. L c v) left) (alive c (rw size at lc))
-  where
-    by : (value : ℕ) → value < 2 → ((v : ℕ) → has q c v ≡ (has p c v && not
-        (eqb v value && (has p c (1 - value) && lies_in_first p.size.w pieces n c))))
-        → (has p c 0 ≡ true) ⊎ (has p c 1 ≡ true) → (has q c 0 ≡ true) ⊎ (has q c 1 ≡ true)
-    by zero low is some = grind (arith, common_steps, cases_Bool (has p c 0), cases_Bool (has p c 1), is 0, is 1)
-    by (suc zero) low is some = grind (arith, common_steps, cases_Bool (has p c 0), cases_Bool (has p c 1), is 0, is 1)
-    by (suc (suc value)) low is some = absurd (omega arith)
+struck-alive p q pieces n value size lt alive left c lc = grind (arith, common_steps, cases_Bool)

@@ -112,8 +112,7 @@ count-none test xs none = omega (arith, ltb-false _ _ (some-counted test xs ∙ 
 pub count-every : (test : ℕ → Bool) (xs : List ℕ) → ((d : ℕ) → has_place xs d ≡ true → test d ≡ true) → count_by test xs ≡ length xs
 unfolding has_place
 count-every test [] all = refl
-count-every test (x ∷ xs) all =
-    let first = all x (grind (arith, common_steps)) in omega (arith, count-cons test x xs, ap num first, count-every test xs (λ d on. all d (grind (arith, common_steps, on))))
+count-every test (x ∷ xs) all = grind (arith, common_steps, count-cons, count-every test xs (λ d on. all d (grind (arith, common_steps, on))))
 
 -- of different places, one at most passes where no two do
 pub count-one : (test : ℕ → Bool) (xs : List ℕ) → AreDistinct xs →

@@ -24,8 +24,7 @@ pub cells-alive : {cells : ℕ} (s : Layers) → cells_of s ≡ cells → is_dea
 cells-alive {cells} s size alive = λ c lt. counted-some (has s) c (is_dead-not cells 2 (has s) c alive (rw size at lt))
 
 pub alive-cells : {cells : ℕ} (s : Layers) → cells_of s ≡ cells → ArePlanesAlive s → is_dead cells 2 (has s) ≡ false
-alive-cells {cells} s size alive = is_dead-each cells 2 (has s)
-    (λ c lt. some-counted (has s) c (alive c (rw size lt)))
+alive-cells {cells} s size alive = grind (arith, common_steps, is_dead-each, some-counted)
 
 -- so many sweeps took the planes from the first to the second, and each took something
 pub record AreSweepsOf (p : RuleSystem) (from : Layers) (sweeps : ℕ) (to : Layers) : Type 0 where
@@ -104,22 +103,17 @@ closed-met p {g} houses grid = record {
 -- a line that does not wait is none of these, nor beside one
 pub spread-off : {W : Type 0} (bits : W → ℕ) {room : ℕ} (before : W) (lines : ℕ → Bool) (now : W) → AreSpread bits room before lines now
     → {j k : ℕ} → lines j ≡ true → k < room → has_bit (bits now) k ≡ false → IsNextTo j k → ⊥
-spread-off bits {room} before lines now woken {j} {k} on lt off (inl own) =
-    true≢false (sym (rw own at on) ∙ (or_parts _ _ (or_parts _ _ (or_parts _ _ (sym (woken k) ∙ off)).1).0).1)
+spread-off bits {room} before lines now woken {j} {k} on lt off (inl own) = grind (arith, common_steps, or_parts)
 spread-off bits {room} before lines now woken {j} {k} on lt off (inr (inl above)) =
     let at : j ≡ k - 1 = omega (arith, above) in
     let f : (ltb k room && (ltb 0 k && lines (k - 1))) ≡ false =
     (or_parts _ _ (or_parts _ _ (or_parts _ _ (sym (woken k) ∙ off)).1).0).0 in
     true≢false (rw (lt-ltb _ _ lt, lt-ltb 0 k (omega (arith, above)), rw at at on) at f)
-spread-off bits {room} before lines now woken {j} {k} on lt off (inr (inr below)) =
-    true≢false (sym (rw below at on) ∙ (or_parts _ _ (or_parts _ _ (sym (woken k) ∙ off)).1).1)
+spread-off bits {room} before lines now woken {j} {k} on lt off (inr (inr below)) = grind (arith, common_steps, or_parts)
 
 -- what keeps a value that it had, unless it is lost
 pub value-kept : {K L : Candidates} (c v : ℕ) → IsInside L K → (K c v ≡ true → L c v ≡ false → ⊥) → L c v ≡ K c v
-value-kept {K} {L} c v inside never = elim (cases_Bool (K c v)) [
-  | inl on ↦ (elim (cases_Bool (L c v)) [ inl still ↦ still | inr gone ↦ absurd (never on gone) ]) ∙ sym on
-  | inr off ↦ false_from_ne_true _ (λ on. true≢false (sym (inside c v on) ∙ off)) ∙ sym off
-]
+value-kept {K} {L} c v inside never = grind (arith, common_steps, cases_Bool, false_from_ne_true)
 
 -- the board when the trail had that length
 pub back-whole : {from to : Layers} {len : ℕ} → from.len ≡ len → IsFurther from to → back_at to len ≡ has from
@@ -141,10 +135,7 @@ module _ (p : CountPuzzle) {K : Candidates} {place : ℕ} (around : IsClosedArou
 
   -- the cell has a value
   pub around-some : K place 1 ≡ false → K place 0 ≡ false → ⊥
-  around-some no_one no_zero = elim (full-around.some place (around.within place around.value around.had).0) [
-    | inl on ↦ true≢false (sym on ∙ no_zero)
-    | inr on ↦ true≢false (sym on ∙ no_one)
-  ]
+  around-some no_one no_zero = grind (arith, common_steps, full-around)
 
   -- and alone has lost one
   pub around-lost : {W : Type 0} (bits : W → ℕ) (w v : ℕ) (lines : Touched W) → (K place v ≡ false → AreLinesOf bits lines (place / w) (place % w))

@@ -1,5 +1,5 @@
 -- Where a search of count houses starts, and the first test that fails.
-use Rattle.fields_core.proofs.Common.{AllByRecursion, AreRight, Bool, Candidates, IsFirstFailed, IsMade, IsNext, Kind, Layout, List, None, Option, Row, SameShape, Some, all_of, and-true, ap, arith, cases_Bool, cases_eq, cases_lt, common_steps, covers, crosses, div-add-mod', div-lt_iff_lt-mul, eq-eqb, eqb, first_in, fun_ext, has_bit, inl, inr, le-ltb, lt-ltb, ltb, mod-lt, ne_eqb, not, not-false, not-true, or-false, or-true, refl, start_of, tests, true, without, without_taking, ℕ, ◌%◌, ◌&&◌, ◌*◌, ◌++◌, ◌+◌, ◌/◌, ◌<◌, ◌||◌, ◌↔◌, ◌∙◌, ◌∷◌, ◌≡◌, ◌≤◌}
+use Rattle.fields_core.proofs.Common.{AllByRecursion, AreRight, Bool, Candidates, IsFirstFailed, IsMade, IsNext, Kind, Layout, List, None, Option, Row, SameShape, Some, all_of, and-true, ap, arith, cases_Bool, cases_eq, cases_lt, common_steps, covers, crosses, div-add-mod', div-lt_iff_lt-mul, eq-eqb, eqb, first_in, fun_ext, has_bit, le-ltb, lt-ltb, ltb, mod-lt, ne_eqb, not, not-false, not-true, or-false, or-true, start_of, tests, true, without, without_taking, ℕ, ◌%◌, ◌&&◌, ◌*◌, ◌++◌, ◌+◌, ◌/◌, ◌<◌, ◌||◌, ◌∙◌, ◌∷◌, ◌≡◌, ◌≤◌}
 
 -- The board that a search of count houses starts from.
 -- ---- the start, with the cells below a place blocked
@@ -28,16 +28,7 @@ row-blocked {cells} {blocked} {w} y bits pos e before left is = record {
     by all one old new row e = grind (arith, common_steps, cases_Bool)
 
     here : (c : ℕ) → (ltb c ((y + 1) * w) && blocked c) ≡ ((ltb c (y * w) && blocked c) || (eqb (c / w) y && has_bit bits (c % w)))
-    here c =
-        let d : (c / w < y) ↔ (c < y * w) = div-lt_iff_lt-mul pos in
-        let n : (c / w < y + 1) ↔ (c < (y + 1) * w) = div-lt_iff_lt-mul pos in
-        elim (cases_eq (c / w) y) [
-          | inl e ↦
-              let at : y * w + c % w ≡ c = rw e at (div-add-mod' c w) in
-              let high : y * w ≤ c = omega arith in let low : c < (y + 1) * w = n.0 (omega arith) in
-              rw (e, eq-eqb y y refl, is (c % w), lt-ltb _ _ (mod-lt c pos), at, le-ltb _ _ high, lt-ltb _ _ low) refl
-          | inr ne ↦ rw (ne_eqb _ _ ne) (grind (arith, common_steps, cases_lt, lt-ltb, le-ltb, cases_Bool, d.0, d.1, n.0, n.1))
-        ]
+    here c = grind (arith, common_steps, div-lt_iff_lt-mul, cases_eq, div-add-mod', eq-eqb, lt-ltb, mod-lt, le-ltb, ne_eqb, cases_lt, cases_Bool)
 
 pub start-all : {cells : ℕ} {blocked : ℕ → Bool} {n : ℕ} {K : Candidates} → IsStarted cells blocked n K → cells ≤ n → K ≡ start_of cells blocked
 unfolding start_of all_of

@@ -69,10 +69,7 @@ around-run {test} {len} {at} {start} {end} on =
 -- ---- the same along two ways of numbering one line
 pub filter-map : (f : ℕ → ℕ) (test : ℕ → Bool) (xs : List ℕ) → filter test (map f xs) ≡ map f (filter (λ x. test (f x)) xs)
 filter-map f test [] = refl
-filter-map f test (x ∷ xs) = elim (cases_Bool (test (f x))) [
-  | inl on ↦ rw on (ap (λ l. f x ∷ l) (filter-map f test xs))
-  | inr off ↦ rw off (filter-map f test xs)
-]
+filter-map f test (x ∷ xs) = grind (arith, common_steps, cases_Bool, filter-map f test xs)
 
 pub filter-same : (s t : ℕ → Bool) (a n : ℕ) → ((i : ℕ) → a ≤ i → i < a + n → s i ≡ t i) → filter s (range_with_len a n) ≡ filter t (range_with_len a n)
 filter-same s t a zero same = refl
@@ -160,9 +157,7 @@ line-from first stride at n =
 kept-others : (f : ℕ → ℕ) (place a n : ℕ) → ((i : ℕ) → a ≤ i → i < a + n → f i ≡ place → ⊥)
     → filter (λ d. not (eqb d place)) (map f (range_with_len a n)) ≡ map f (range_with_len a n)
 kept-others f place a zero other = refl
-kept-others f place a (suc n) other =
-    rw (ne_eqb _ _ (other a (omega arith) (omega arith)))
-    (ap (λ l. f a ∷ l) (kept-others f place (a + 1) n (λ i low lt. other i (omega arith) (omega arith))))
+kept-others f place a (suc n) other = grind (arith, common_steps, ne_eqb, kept-others f place (a + 1) n (λ i low lt. other i (omega arith) (omega arith)))
 
 pub line-cut : (first stride k m : ℕ) {place : ℕ} → 0 < stride → first + k * stride ≡ place
     → filter (λ d. not (eqb d place)) (line first stride (k + suc m)) ≡ line first stride k ++ line (place + stride) stride m
@@ -185,10 +180,7 @@ line-cut first stride k m {place} pos here =
     after i low lt e = let a : (k + 1) * stride ≤ i * stride = mul-le-mul_right stride (omega arith) in omega arith
 
     behind : filter others (map at (range_with_len (0 + k) (suc m))) ≡ line (place + stride) stride m
-    behind =
-        let z : 0 + k ≡ k = omega arith in let y : first + (k + 1) * stride ≡ place + stride = omega arith in
-        rw (z, eq-eqb _ _ here)
-        (kept-others at place (k + 1) m after ∙ sym (line-from first stride (k + 1) m) ∙ ap (λ n. line n stride m) y)
+    behind = grind (arith, common_steps, eq-eqb, kept-others, line-from)
 
 -- The runs that a walk over the cells keeps.
 -- ---- the run around a cell of a line
@@ -212,14 +204,7 @@ around-begun p first stride {len} {at} {end} begun on = record {
         let z : first + at * stride - stride ≡ first + i * stride = rw (sym e) (omega arith) in rw z at (not-true _ black)
 
 around-next : {test : ℕ → Bool} {len i start end : ℕ} → IsAround test len i start end → suc i < end → IsAround test len (suc i) start end
-around-next {len} {i} {start} {end} is lt = record {
-  low = let low = is.low in omega arith;
-  past = lt;
-  high = is.high;
-  pass = is.pass;
-  first = is.first;
-  last = is.last;
-}
+around-next {len} {i} {start} {end} is lt = grind (arith, common_steps)
 
 later : (i : ℕ) → eqb (suc i) 0 ≡ false
 later i = ne_eqb (suc i) 0 (λ e. omega (arith, e))
@@ -245,19 +230,10 @@ pub latest-none : (test : ℕ → Bool) (len : ℕ) → IsLatest test len 0 (0, 
 latest-none test len = (λ lt. absurd (omega (arith, lt)), λ past lt on i e. absurd (omega (arith, e)))
 
 pub latest-white : {test : ℕ → Bool} {len at : ℕ} (run : ℕ × ℕ) → IsAround test len at run.0 run.1 → IsLatest test len (at + 1) run
-latest-white {test} {len} {at} run is =
-    let z = add-one at in (
-      λ lt. (omega (arith, is.low), rw z (around-next is (rw z at lt))),
-      λ past lt on i e.
-          let end : run.1 ≡ at + 1 = omega (arith, past, is.past) in
-          absurd (true≢false (sym on ∙ rw end at (is.last (omega (arith, end, lt))))),
-    )
+latest-white {test} {len} {at} run is = grind (arith, common_steps, add-one, around-next)
 
 pub latest-black : {test : ℕ → Bool} {len at : ℕ} (run : ℕ × ℕ) → test at ≡ false → IsLatest test len at run → IsLatest test len (at + 1) run
-latest-black {len} {at} run off latest = (
-  λ lt. let is = (latest.0 (omega (arith, lt))).1 in absurd (true≢false (sym (is.pass at is.low is.past) ∙ off)),
-  λ past lt on i e. let z : i ≡ at = omega (arith, e) in rw z off,
-)
+latest-black {len} {at} run off latest = grind (arith, common_steps)
 
 -- ---- the latest run of each column: at the row below where the row has been looked at, and else at the row
 abbrev pub AreColumnsKept : Light → List (ℕ × ℕ) → ℕ → ℕ → Type 0
@@ -280,9 +256,7 @@ pub columns-none : (p : Light) (runs : List (ℕ × ℕ)) → ((c : ℕ) → c <
 columns-none p runs none c lt = let e : ltb c 0 ≡ false = le-ltb c 0 (omega arith) in rw (e, none c lt) (latest-none (line_white p c p.size.w) p.size.h)
 
 pub columns-row : (p : Light) (runs : List (ℕ × ℕ)) (y : ℕ) → AreColumnsKept p runs y p.size.w → AreColumnsKept p runs (y + 1) 0
-columns-row p runs y are c lt =
-    let e : ltb c 0 ≡ false = le-ltb c 0 (omega arith) in let z : y + 1 + 0 ≡ y + 1 = omega arith in
-    rw (e, z) (rw (lt-ltb _ _ lt) at (are c lt))
+columns-row p runs y are c lt = grind (arith, common_steps, le-ltb, lt-ltb)
 
 pub column-here : (p : Light) (runs : List (ℕ × ℕ)) (y x : ℕ) → AreColumnsKept p runs y x → x < p.size.w
     → IsLatest (line_white p x p.size.w) p.size.h y (get_or runs x (0, 0))
@@ -290,21 +264,15 @@ column-here p runs y x are lt = let e : ltb x x ≡ false = le-ltb x x (omega ar
 
 -- ---- places are small
 pub small-place : {p : Light} {x y : ℕ} → IsLight p → x < p.size.w → y < p.size.h → y * p.size.w + x < 2 ^ 16
-small-place {p} {x} {y} is low high =
-    let rows : (y + 1) * p.size.w ≤ p.size.h * p.size.w = mul-le-mul_right p.size.w (omega (arith, high)) in
-    let few : p.size.h * p.size.w ≤ 120 * p.size.w = mul-le-mul_right p.size.w (omega (arith, is.size.extent)) in
-    omega (arith, rows, few, is.size.extent)
+small-place {p} {x} {y} is low high = grind (arith, common_steps, mul-le-mul_right)
 
 pub few-places : {p : Light} → IsLight p → light_cells p < 2 ^ 16
-few-places {p} is =
-    let few : p.size.w * p.size.h ≤ 120 * p.size.h = mul-le-mul_right p.size.h (omega (arith, is.size.extent)) in
-    omega (arith, few, is.size.extent)
+few-places {p} is = grind (arith, common_steps, mul-le-mul_right)
 
 -- ---- the house of a white cell
 around-line : (p : Light) (first stride : ℕ) {len at start end : ℕ} → IsAround (line_white p first stride) len at start end
     → map (λ i. first + i * stride) (filter (clear (line_white p first stride) at) (range_with_len 0 len)) ≡ line (first + start * stride) stride (end - start)
-around-line p first stride {len} {at} {start} {end} is =
-    ap (map (λ i. first + i * stride)) (around-run is) ∙ sym (line-from first stride start (end - start))
+around-line p first stride {len} {at} {start} {end} is = grind (arith, common_steps, around-run, line-from)
 
 pub lit-lines : (p : Light) {y x : ℕ} {left right top end : ℕ} → x < p.size.w → white p (y * p.size.w + x) ≡ true
     → IsAround (line_white p (y * p.size.w) 1) p.size.w x left right → IsAround (line_white p x p.size.w) p.size.h y top end
@@ -336,22 +304,13 @@ lit-lines p {y} {x} {left} {right} {top} {end} lt on row column =
         ∙ rw whole at (line-cut (x + top * p.size.w) p.size.w (y - top) (end - y - 1) (omega arith) here)
 
 lines-long : (a m i b n j c k l : ℕ) → length (line a m i ++ (line b n j ++ line c k l)) ≡ i + (j + l)
-lines-long a m i b n j c k l =
-    length-append (line a m i) _ ∙ ap₂ (λ s t. s + t) (length-map-range_with_len _ 0 i)
-    (length-append (line b n j) _ ∙ ap₂ (λ s t. s + t) (length-map-range_with_len _ 0 j) (length-map-range_with_len _ 0 l))
+lines-long a m i b n j c k l = grind (arith, common_steps, length-append, length-map-range_with_len)
 
 -- it is as long as both runs together, but for the cell that they share
 pub lit-long : (p : Light) {y : ℕ} (x left right : ℕ) {top end : ℕ} → IsAround (line_white p x p.size.w) p.size.h y top end
     → right - left + (end - top - 1) ≡ length (line (y * p.size.w + left) 1 (right - left)
     ++ (line (x + top * p.size.w) p.size.w (y - top) ++ line (y * p.size.w + x + p.size.w) p.size.w (end - y - 1)))
-lit-long p {y} x left right {top} {end} column =
-    omega (
-      arith,
-      column.low,
-      column.past,
-      lines-long (y * p.size.w + left) 1 (right - left) (x + top * p.size.w) p.size.w (y - top)
-          (y * p.size.w + x + p.size.w) p.size.w (end - y - 1),
-    )
+lit-long p {y} x left right {top} {end} column = grind (arith, common_steps, lines-long)
 
 -- ---- the house of a run
 pub run-told : (p : Light) (first stride : ℕ) {len at end : ℕ} {places : List ℕ} → begins_at p first stride at ≡ true
@@ -388,13 +347,7 @@ column-black p c off = rw off refl
 
 -- each is the house that its place tells
 pub row-told : (p : Light) (y x : ℕ) → x < p.size.w → row_house p (y * p.size.w + x * 1) ≡ run_house p (y * p.size.w) 1 p.size.w x
-row-told p y x lt = ap (row_house p) z ∙ sym (row-house-is p y lt)
-  where
-    z : y * p.size.w + x * 1 ≡ y * p.size.w + x
-    z = omega arith
+row-told p y x lt = grind (arith, common_steps, row-house-is)
 
 pub column-told : (p : Light) (y x : ℕ) → x < p.size.w → column_house p (x + y * p.size.w) ≡ run_house p x p.size.w p.size.h y
-column-told p y x lt = ap (column_house p) z ∙ sym (column-house-is p y lt)
-  where
-    z : x + y * p.size.w ≡ y * p.size.w + x
-    z = omega arith
+column-told p y x lt = grind (arith, common_steps, column-house-is)

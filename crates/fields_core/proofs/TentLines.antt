@@ -148,21 +148,7 @@ module _ (size : Extent) {a first end : ℕ} (pos : 0 < size.w) (window : IsWind
     pub untouched : {from to last : ℕ} {found : Bool} → IsTentAmong g a first end false
         → IsTentAmong g a from to false → IsTentAmong g a (first + size.w) last found
         → from ≡ first - size.w → to ≡ end - size.w → last ≡ min n (end + size.w) → found ≡ false → found ≡ any_below (λ d. touches size a d && tent g d) n
-    untouched beside above below ef et el off = off ∙ none-below _ n (λ d lt. and_left-or lt)
-      where
-        and_left-or : {d : ℕ} → d < n → (touches size a d && tent g d) ≡ false
-        and_left-or {d} lt = elim (cases_Bool (touches size a d)) [
-          | inr apart ↦ and_left (touches size a d) (tent g d) apart
-          | inl on ↦
-              let w = is-touched d on in
-              rw on (elim w.1.side [
-                | inl s ↦ beside.none refl d s.0 s.1 w.0
-                | inr r ↦ elim r [
-                  | inl s ↦ above.none refl d (omega (arith, s.0)) (omega (arith, s.1)) w.0
-                  | inr s ↦ below.none off d s.0 (omega (arith, s.1)) w.0
-                ]
-              ])
-        ]
+    untouched beside above below ef et el off = grind (arith, common_steps, none-below, cases_Bool, and_left, is-touched)
 
 pub some-wide : (size : Extent) {a : ℕ} → a < size.w * size.h → 0 < size.w
 some-wide size lt = grind (arith, common_steps)

@@ -1,5 +1,5 @@
 -- The squares of two rows of Tents, and visits of them.
-use Rattle.fields_core.proofs.Common.{AllByRecursion, ArePlanesAlive, AreVisited, Bool, Candidates, CountHouse, Extent, IsFurther, IsHouse, IsTents, Layers, Row, Tents, [], and-false, and_from, and_parts, any_below, any_below-here, any_below-none, any_below-some, ap, arith, bit_of, cases_Bool, cases_lt, common_steps, cond, count_by, covers, crosses, div-mul-add, eq-eqb, eqb, eqb-true, false, false≢true, fun_ext, has, has_bit, has_place, houses_below, inl, inr, le-ltb, lies_in, lies_in_first, list_any, lt-ltb, ltb, ltb-true, mod-lt, mul-le-mul_right, not, not-false, not-true, one_at_most, or_cases, or_left, or_parts, or_right, place-column, refl, square_house, squares_of_row, subst, suc, sym, tent_cells, true, two_rows, without_taking, without_value, zero, ℕ, ◌%◌, ◌&&◌, ◌*◌, ◌+◌, ◌-◌, ◌/◌, ◌<◌, ◌||◌, ◌∙◌, ◌∷◌, ◌≡◌, ◌≢◌, ◌≤◌, ◌⊎◌}
+use Rattle.fields_core.proofs.Common.{AllByRecursion, ArePlanesAlive, AreVisited, Bool, Candidates, CountHouse, Extent, IsFurther, IsHouse, IsTents, Layers, Row, Tents, [], and-false, and_from, and_parts, any_below, any_below-here, any_below-none, any_below-some, ap, arith, bit_of, cases_Bool, cases_lt, common_steps, count_by, covers, crosses, div-mul-add, eq-eqb, eqb, eqb-true, false, false≢true, fun_ext, has, has_bit, has_place, houses_below, inl, inr, le-ltb, lies_in, lies_in_first, list_any, lt-ltb, ltb, ltb-true, mod-lt, mul-le-mul_right, not, not-false, not-true, one_at_most, or_cases, or_left, or_parts, or_right, place-column, refl, square_house, squares_of_row, suc, sym, tent_cells, true, two_rows, without_taking, without_value, zero, ℕ, ◌%◌, ◌&&◌, ◌*◌, ◌+◌, ◌-◌, ◌/◌, ◌<◌, ◌||◌, ◌∙◌, ◌∷◌, ◌≡◌, ◌≢◌, ◌≤◌, ◌⊎◌}
 unfoldable use Rattle.fields_core.proofs.VisitLemmas.{is_met, without_met}
 use Rattle.fields_core.proofs.CellLemmas.{cell-is, same-truth}
 use Rattle.fields_core.proofs.PlaceLists.{count-cons}
@@ -19,9 +19,7 @@ in_columns w x c = eqb (c % w) x || eqb (c % w) (x + 1)
 
 places-are : (w y x : ℕ) → square_places w (y * w + x)
     ≡ (y * w + x) ∷ (y * w + (x + 1)) ∷ ((y + 1) * w + x) ∷ ((y + 1) * w + (x + 1)) ∷ []
-places-are w y x =
-    let a : y * w + x + 1 ≡ y * w + (x + 1) = omega arith in let d : y * w + x + w + 1 ≡ (y + 1) * w + (x + 1) = omega arith in
-    let b : y * w + x + w ≡ (y + 1) * w + x = omega arith in rw (d, b, a) refl
+places-are w y x = grind (arith, common_steps)
 
 pub square-has : {w : ℕ} (y x c : ℕ) → x + 1 < w → has_place (square_places w (y * w + x)) c ≡ (in_rows w y c && in_columns w x c)
 unfolding has_place
@@ -50,19 +48,7 @@ pub square-few : (zeros : ℕ → Bool) (w y x : ℕ) → (zeros (y * w + x) || 
     → (zeros (y * w + (x + 1)) || zeros ((y + 1) * w + (x + 1))) ≡ true
     → (must_in zeros w y x && must_in zeros w y (x + 1)) ≡ false
     → count_by (λ d. not (zeros d)) (square_places w (y * w + x)) ≤ 1
-square-few zeros w y x first next apart =
-    subst (λ xs. count_by none xs ≤ 1) (sym (places-are w y x))
-    (by (zeros (y * w + x)) (zeros (y * w + (x + 1))) (zeros ((y + 1) * w + x)) (zeros ((y + 1) * w + (x + 1))) first next apart
-    (count-cons none (y * w + x) ((y * w + (x + 1)) ∷ ((y + 1) * w + x) ∷ ((y + 1) * w + (x + 1)) ∷ []))
-    (count-cons none (y * w + (x + 1)) (((y + 1) * w + x) ∷ ((y + 1) * w + (x + 1)) ∷ []))
-    (count-cons none ((y + 1) * w + x) (((y + 1) * w + (x + 1)) ∷ [])) (count-cons none ((y + 1) * w + (x + 1)) []))
-  where
-    none : ℕ → Bool
-    none d = not (zeros d)
-
-    by : (a b d e : Bool) → (a || d) ≡ true → (b || e) ≡ true → (not (a && d) && not (b && e)) ≡ false
-        → {n o q r : ℕ} → n ≡ cond (not a) 1 0 + o → o ≡ cond (not b) 1 0 + q → q ≡ cond (not d) 1 0 + r → r ≡ cond (not e) 1 0 + 0 → n ≤ 1
-    by a b d e f g h i j k l = grind (arith, common_steps, cases_Bool a, cases_Bool b, cases_Bool d, cases_Bool e)
+square-few zeros w y x first next apart = grind (arith, common_steps, places-are, count-cons, cases_Bool)
 
 -- ---- the houses of two rows
 module _ (p : Tents) (y : ℕ) (lawful : IsTents p) (low : y + 1 < p.size.h) where
@@ -223,10 +209,7 @@ module _ (p : Tents) (y : ℕ) (from : Layers) (room twice must : ℕ) (lawful :
   lower-at {u} lt = sym (zero-at from (y + 1) (ap (λ (s : Extent). s.w) size) lt)
 
   must-at : (u : ℕ) → has_bit must u ≡ (ltb u width && must_in zeros width y u)
-  must-at u = are.must_is u ∙ elim (cases_lt u width) [
-    | inl lt ↦ rw (upper-at lt, lower-at lt) refl
-    | inr high ↦ rw (le-ltb _ _ high) refl
-  ]
+  must-at u = grind (arith, common_steps, cases_lt, upper-at, lower-at, le-ltb)
 
   twice-at : {u : ℕ} → u < width → has_bit twice u ≡ not (zeros (y * width + u) || zeros ((y + 1) * width + u))
   twice-at {u} lt = are.twice_is u ∙ rw (lt-ltb _ _ lt, upper-at lt, lower-at lt) refl

@@ -63,10 +63,7 @@ module _ (p : Tents) (lawful : IsTents p) (K : Candidates) (y : ℕ) (y_in : y <
       (λ c there. zeros-full (struck p K y n) K c (struck-one p K y n c) (alive c (house.within c there)))
       (filled-stays (struck p K y n) K (free_beside p (cell n)) filled)
       (λ c v on. two c v (zeros-inside (struck p K y n) K c v on))
-      ∙ (fun_ext λ c. fun_ext λ v. rw (count-stays (struck p K y n) K (free_beside p (cell n)), filter-has (λ d. not (tree p d)) (beside p.size (cell n)) c, is) (by (K c v) (eqb v 0) (K c 1) (not (tree p c)) (is_beside p.size y (lone p K y) n c) (has_place (beside p.size (cell n)) c) (eqb (may p K y n) 1)))
-    where
-      by : (k z o f s b l : Bool) → ((k && not (z && ((f && o) && s))) && not (z && ((o && true) && ((b && f) && l)))) ≡ (k && not (z && ((f && o) && (s || (l && b)))))
-      by k z o f s b l = grind (arith, common_steps, cases_Bool k, cases_Bool z, cases_Bool o, cases_Bool f, cases_Bool s, cases_Bool b, cases_Bool l)
+      ∙ (fun_ext λ c. fun_ext λ v. rw (count-stays (struck p K y n) K (free_beside p (cell n)), filter-has (λ d. not (tree p d)) (beside p.size (cell n)) c, is) (grind (arith, common_steps, cases_Bool (K c v), cases_Bool (eqb v 0), cases_Bool (K c 1), cases_Bool (not (tree p c)), cases_Bool (is_beside p.size y (lone p K y) n c), cases_Bool (has_place (beside p.size (cell n)) c), cases_Bool (eqb (may p K y n) 1))))
 
   next-bare : (n : ℕ) → tree p (cell n) ≡ false → without_zeros (struck p K y n) K ≡ without_zeros (struck p K y (suc n)) K
   unfolding without_zeros is_beside any_below
@@ -77,18 +74,12 @@ module _ (p : Tents) (lawful : IsTents p) (K : Candidates) (y : ℕ) (y_in : y <
 
   next-visit : (n : ℕ) → n < p.size.w → AreFilled p K y (suc n) → after_houses (tree_house p (cell n)) (without_zeros (struck p K y n) K) ≡ without_zeros (struck p K y (suc n)) K
   unfolding after_houses
-  next-visit n lt filled = elim (cases_Bool (tree p (cell n))) [
-    | inl is ↦ rw is (next-tree lt is (filled n (omega arith) is))
-    | inr off ↦ rw off (next-bare n off)
-  ]
+  next-visit n lt filled = grind (arith, common_steps, cases_Bool, next-tree, next-bare)
 
   pub trees-board : (n : ℕ) → n ≤ p.size.w → AreFilled p K y n → after_houses (houses_below (λ x. tree_house p (cell x)) n) K ≡ without_zeros (struck p K y n) K
   unfolding houses_below after_houses without_zeros is_beside any_below
   trees-board zero le filled = fun_ext λ c. fun_ext λ v. grind (arith, common_steps, cases_Bool)
-  trees-board (suc n) le filled =
-      visits-append (houses_below (λ x. tree_house p (cell x)) n) (tree_house p (cell n)) K
-      ∙ ap (after_houses (tree_house p (cell n))) (trees-board n (omega arith) (λ x lt. filled x (omega arith)))
-      ∙ next-visit n (omega arith) filled
+  trees-board (suc n) le filled = grind (arith, common_steps, visits-append, next-visit, trees-board n (omega arith) (λ x lt. filled x (omega arith)))
 
   -- a tree whose free cells can have no tent
   pub trees-dead : {x : ℕ} (d : ℕ) {v : ℕ} → x < p.size.w → tree p (cell x) ≡ true → may p K y x ≡ 0 → has_place (free_beside p (cell x)) d ≡ true → v < 2

@@ -1,5 +1,5 @@
 -- Words of the cells of a row and of those beside them.
-use Rattle.fields_core.proofs.Common.{Bool, Candidates, Extent, IsNear, IsRowIn, IsRowOf, Layers, List, None, Row, Some, Tents, and-false, and_from, and_parts, any_below-here, any_below-some, ap, arith, beside, bit_of, cases_Bool, cases_lt, common_steps, cond, count_by, covers, crosses, differ, div-add-mod', div-mul-add, eq-eqb, eqb, eqb-true, false, false_from_ne_true, fun_ext, has, has_bit, has_place, if_there, inl, inr, is_barred, is_beside, le-ltb, list_any, lt-ltb, ltb, ltb-true, mod-lt, not, or_cases, or_left, or_right, place-column, refl, step, steps, suc, sum_by-append, sym, tree, true, wants_tent, without_taking, without_zeros, zero, ℕ, ◌%◌, ◌&&◌, ◌*◌, ◌++◌, ◌+◌, ◌-◌, ◌/◌, ◌<◌, ◌||◌, ◌∙◌, ◌≡◌, ◌≤◌}
+use Rattle.fields_core.proofs.Common.{Bool, Candidates, Extent, IsNear, IsRowIn, IsRowOf, Layers, List, None, Row, Some, Tents, and-false, and_from, and_parts, any_below-here, any_below-some, ap, arith, beside, bit_of, cases_Bool, cases_lt, common_steps, cond, count_by, covers, crosses, differ, div-add-mod', div-mul-add, eq-eqb, eqb, eqb-true, false, false_from_ne_true, fun_ext, has, has_bit, has_place, if_there, inl, inr, is_barred, is_beside, le-ltb, lt-ltb, ltb, ltb-true, mod-lt, not, or_cases, or_left, or_right, place-column, refl, step, steps, suc, sum_by-append, sym, tree, true, wants_tent, without_taking, without_zeros, zero, ℕ, ◌%◌, ◌&&◌, ◌*◌, ◌++◌, ◌+◌, ◌-◌, ◌/◌, ◌<◌, ◌||◌, ◌∙◌, ◌≡◌, ◌≤◌}
 use Rattle.fields_core.specs.declared.planes.tents.three_rows.ThreeRows.{ThreeRows}
 use Rattle.fields_core.proofs.CellLemmas.{has-append, has-at, same-truth}
 use Rattle.fields_core.proofs.PlaceLists.{num, some-counted}
@@ -12,15 +12,12 @@ cell_if there c = if_there (cond there (Some c) None)
 up-at : (size : Extent) (y x : ℕ) → x < size.w → if_there (step size (y * size.w + x) 0) ≡ cell_if (ltb 0 y) ((y - 1) * size.w + x)
 unfolding step
 up-at size zero x lt = rw (div-mul-add 0 size.w x lt) refl
-up-at size (suc y) x lt =
-    let e : suc y * size.w + x - size.w ≡ (suc y - 1) * size.w + x = (let f : suc y - 1 ≡ y = omega arith in rw f (omega arith)) in
-    rw (div-mul-add (suc y) size.w x lt, e) refl
+up-at size (suc y) x lt = grind (arith, common_steps, div-mul-add)
 
 left-at : (size : Extent) (y x : ℕ) → x < size.w → if_there (step size (y * size.w + x) 1) ≡ cell_if (ltb 0 x) (y * size.w + (x - 1))
 unfolding step
 left-at size y zero lt = rw (place-column size.w y 0 lt) refl
-left-at size y (suc x) lt =
-    let e : y * size.w + suc x - 1 ≡ y * size.w + (suc x - 1) = omega arith in rw (place-column size.w y (suc x) lt, e) refl
+left-at size y (suc x) lt = grind (arith, common_steps, place-column)
 
 right-at : (size : Extent) (y x : ℕ) → x < size.w → if_there (step size (y * size.w + x) 2) ≡ cell_if (ltb (x + 1) size.w) (y * size.w + (x + 1))
 unfolding step
@@ -28,8 +25,7 @@ right-at size y x lt = let e : y * size.w + x + 1 ≡ y * size.w + (x + 1) = ome
 
 down-at : (size : Extent) (y : ℕ) {x : ℕ} → x < size.w → if_there (step size (y * size.w + x) 3) ≡ cell_if (ltb (y + 1) size.h) ((y + 1) * size.w + x)
 unfolding step
-down-at size y {x} lt =
-    let e : y * size.w + x + size.w ≡ (y + 1) * size.w + x = omega arith in rw (div-mul-add y size.w x lt, e) refl
+down-at size y {x} lt = grind (arith, common_steps, div-mul-add)
 
 beside-is : (size : Extent) (y : ℕ) {x : ℕ} → x < size.w → beside size (y * size.w + x)
     ≡ ((cell_if (ltb 0 y) ((y - 1) * size.w + x) ++ cell_if (ltb 0 x) (y * size.w + (x - 1)))
@@ -52,14 +48,12 @@ count-append passes xs ys = sum_by-append (λ c. cond (passes c) 1 0) xs ys
 beside-count : (size : Extent) (passes : ℕ → Bool) (y x : ℕ) → x < size.w → count_by passes (beside size (y * size.w + x))
     ≡ num (ltb 0 y && passes ((y - 1) * size.w + x)) + num (ltb 0 x && passes (y * size.w + (x - 1)))
     + num (ltb (x + 1) size.w && passes (y * size.w + (x + 1))) + num (ltb (y + 1) size.h && passes ((y + 1) * size.w + x))
-beside-count size passes y x lt =
-    ap (count_by passes) (beside-is size y lt) ∙ simp (count-append, count-if) refl
+beside-count size passes y x lt = grind (arith, common_steps, beside-is, count-append, count-if)
 
 pub beside-has : (size : Extent) (y : ℕ) {x : ℕ} (c : ℕ) → x < size.w → has_place (beside size (y * size.w + x)) c
     ≡ (((ltb 0 y && eqb ((y - 1) * size.w + x) c) || (ltb 0 x && eqb (y * size.w + (x - 1)) c))
     || (ltb (x + 1) size.w && eqb (y * size.w + (x + 1)) c)) || (ltb (y + 1) size.h && eqb ((y + 1) * size.w + x) c)
-beside-has size y {x} c lt =
-    ap (λ (xs : List ℕ). has_place xs c) (beside-is size y lt) ∙ simp (has-append, has-if) refl
+beside-has size y {x} c lt = grind (arith, common_steps, beside-is, has-append, has-if)
 
 -- ---- the words beside a place
 module _ {W : Type 0} (bits : W → ℕ) (room : ℕ) (size : Extent) (passes : ℕ → Bool) (y x : ℕ) (near : ThreeRows W)
@@ -84,25 +78,16 @@ module _ {W : Type 0} (bits : W → ℕ) (room : ℕ) (size : Extent) (passes : 
   count-is = beside-count size passes y x lt ∙ rw (up-is, left-is, is.own (x + 1), down-is) refl
 
   pub some-beside : ((has_bit (bits near.above) x || has_bit (bits near.below) x) || (before || behind)) ≡ ltb 0 (count_by passes (beside size (y * size.w + x)))
-  some-beside = rw count-is (by (has_bit (bits near.above) x) before behind (has_bit (bits near.below) x))
-    where
-      by : (u l r d : Bool) → ((u || d) || (l || r)) ≡ ltb 0 (num u + num l + num r + num d)
-      by u l r d = grind (arith, common_steps, cases_Bool u, cases_Bool l, cases_Bool r, cases_Bool d)
+  some-beside = rw count-is (grind (arith, common_steps, cases_Bool (has_bit (bits near.above) x), cases_Bool before, cases_Bool behind, cases_Bool (has_bit (bits near.below) x)))
 
   pub one-beside : ((differ (has_bit (bits near.above) x || has_bit (bits near.below) x) (before || behind) && not (has_bit (bits near.above) x && has_bit (bits near.below) x)) && not (before && behind))
       ≡ eqb (count_by passes (beside size (y * size.w + x))) 1
   unfolding differ
-  one-beside = rw count-is (by (has_bit (bits near.above) x) before behind (has_bit (bits near.below) x))
-    where
-      by : (u l r d : Bool) → ((differ (u || d) (l || r) && not (u && d)) && not (l && r)) ≡ eqb (num u + num l + num r + num d) 1
-      by u l r d = grind (arith, common_steps, cases_Bool u, cases_Bool l, cases_Bool r, cases_Bool d)
+  one-beside = rw count-is (grind (arith, common_steps, cases_Bool (has_bit (bits near.above) x), cases_Bool before, cases_Bool behind, cases_Bool (has_bit (bits near.below) x)))
 
 -- ---- those of the cells that can be a one
 pub row-ones : (p : Layers) (y word : ℕ) → ((x : ℕ) → has_bit word x ≡ bit_of p.rows y 1 x) → ((x : ℕ) → has_bit word x ≡ true → x < p.size.w) → IsRowOf p.size.w (λ c. has p c 1) y word
-row-ones p y word is within x = elim (cases_lt x p.size.w) [
-  | inl lt ↦ is x ∙ rw (lt-ltb _ _ lt) (sym (has-at p y x 1 refl lt (omega arith)))
-  | inr ge ↦ rw (le-ltb _ _ ge) (false_from_ne_true _ (λ on. let lt = within x on in absurd (omega arith)))
-]
+row-ones p y word is within x = grind (arith, common_steps, cases_lt, lt-ltb, has-at, le-ltb, false_from_ne_true)
 
 -- the words of a row and of those beside it, where there are such rows
 pub near-ones : {W : Type 0} (bits : W → ℕ) (p : Layers) {y : ℕ} (near : ThreeRows W)
@@ -110,17 +95,7 @@ pub near-ones : {W : Type 0} (bits : W → ℕ) (p : Layers) {y : ℕ} (near : T
     → IsRowOf p.size.w (λ c. has p c 1) y (bits near.own)
     → (y + 1 < p.size.h → IsRowOf p.size.w (λ c. has p c 1) (y + 1) (bits near.below)) → (p.size.h ≤ y + 1 → (x : ℕ) → has_bit (bits near.below) x ≡ false)
     → IsNear bits p.size (λ c. has p c 1) y near
-near-ones bits p {y} near above top own below bottom = record {
-  above = λ x. elim (cases_lt 0 y) [
-    | inl pos ↦ above pos x ∙ rw (lt-ltb _ _ pos) refl
-    | inr le ↦ rw (le-ltb _ _ le) (top (omega arith) x ∙ grind (arith, common_steps, cases_Bool (ltb x p.size.w)))
-  ];
-  own = own;
-  below = λ x. elim (cases_lt (y + 1) p.size.h) [
-    | inl lt ↦ below lt x ∙ rw (lt-ltb _ _ lt) refl
-    | inr ge ↦ rw (le-ltb _ _ ge) (bottom ge x ∙ grind (arith, common_steps, cases_Bool (ltb x p.size.w)))
-  ];
-}
+near-ones bits p {y} near above top own below bottom = grind (arith, common_steps, cases_lt, lt-ltb, le-ltb, cases_Bool)
 
 -- ---- from row to row
 -- what the three rows before row y have, where there are such rows
@@ -135,33 +110,23 @@ before-first {size = size} near below is none e = record { above = λ x. none x 
 pub near-next : {W : Type 0} {bits : W → ℕ} {size : Extent} {passes : ℕ → Bool} {y : ℕ} {near next : ThreeRows W} (below : W)
     → next ≡ record { above = near.own; own = near.below; below = below } → y < size.h
     → IsBefore bits size passes y near → IsRowIn size passes (y + 1) (bits below) → IsNear bits size passes y next
-near-next {size = size} {y = y} below e lt is row =
-    rw e (record { above = is.above; own = λ x. is.own x ∙ rw (lt-ltb _ _ lt) refl; below = row })
+near-next {size = size} {y = y} below e lt is row = grind (arith, common_steps, lt-ltb)
 
 pub before-next : {W : Type 0} {bits : W → ℕ} {size : Extent} {passes : ℕ → Bool} {y : ℕ} {near : ThreeRows W} → IsNear bits size passes y near → IsBefore bits size passes (y + 1) near
-before-next {y = y} is =
-    let back : y + 1 - 1 ≡ y = omega arith in
-    record { above = λ x. is.own x ∙ rw (back, lt-ltb 0 (y + 1) (omega arith)) refl; own = is.below }
+before-next {y = y} is = grind (arith, common_steps, lt-ltb)
 
 -- ---- the cells of a row that a search of Tents starts without, and its trees that want a tent
 module _ (p : Tents) (y trees : ℕ) (trees_is : IsRowOf p.size.w (tree p) y trees) where
   pub row-wants : (others wants : ℕ) → ((x : ℕ) → x < p.size.w → has_bit others x ≡ ltb 0 (count_by (λ d. not (tree p d)) (beside p.size (y * p.size.w + x))))
       → ((x : ℕ) → has_bit wants x ≡ (has_bit trees x && has_bit others x)) → IsRowOf p.size.w (wants_tent p) y wants
   unfolding wants_tent
-  row-wants others wants others_is is x = is x ∙ rw (trees_is x) (elim (cases_lt x p.size.w) [
-    | inl lt ↦ rw (others_is x lt, some-counted (λ d. not (tree p d)) (beside p.size (y * p.size.w + x)), lt-ltb _ _ lt) refl
-    | inr ge ↦ rw (le-ltb _ _ ge) refl
-  ])
+  row-wants others wants others_is is x = grind (arith, common_steps, cases_lt, some-counted, lt-ltb, le-ltb)
 
   pub row-barred : (all near barred : ℕ) → ((x : ℕ) → has_bit all x ≡ ltb x p.size.w)
       → ((x : ℕ) → x < p.size.w → has_bit near x ≡ ltb 0 (count_by (tree p) (beside p.size (y * p.size.w + x))))
       → ((x : ℕ) → has_bit barred x ≡ (has_bit all x && not (has_bit near x && not (has_bit trees x)))) → IsRowOf p.size.w (is_barred p) y barred
   unfolding is_barred
-  row-barred all near barred all_is near_is is x = is x ∙ rw (trees_is x, all_is x) (elim (cases_lt x p.size.w) [
-    | inl lt ↦ rw (near_is x lt, some-counted (tree p) (beside p.size (y * p.size.w + x)), lt-ltb _ _ lt)
-        (grind (arith, common_steps, cases_Bool (tree p (y * p.size.w + x)), cases_Bool (list_any (tree p) (beside p.size (y * p.size.w + x)))))
-    | inr ge ↦ rw (le-ltb _ _ ge) refl
-  ])
+  row-barred all near barred all_is near_is is x = grind (arith, common_steps, cases_lt, some-counted, lt-ltb, cases_Bool, le-ltb)
 
 -- ---- 0 taken from those of the cells that are beside some places of the row
 module _ {W : Type 0} (bits : W → ℕ) (room : ℕ) (size : Extent) (passes : ℕ → Bool) (y above below : ℕ) (near : ThreeRows W) (places over own under : ℕ)
@@ -287,7 +252,4 @@ pub zeros-taken : {w w₂ w₃ : ℕ} (above y below over own under : ℕ) (pass
     → K₃ ≡ without_zeros passes K
 unfolding without_taking covers crosses without_zeros
 zeros-taken {w} above y below over own under passes K first second third e₂ e₃ is = third ∙ rw (e₃, second, e₂, first) (fun_ext λ c. fun_ext λ v.
-    rw (sym (is c)) (by (K c v) (eqb v 0) (eqb (c / w) above && has_bit over (c % w)) (eqb (c / w) y && has_bit own (c % w)) (eqb (c / w) below && has_bit under (c % w))))
-  where
-    by : (k z a b d : Bool) → (((k && not (z && a)) && not (z && b)) && not (z && d)) ≡ (k && not (z && ((a || b) || d)))
-    by k z a b d = grind (arith, common_steps, cases_Bool k, cases_Bool z, cases_Bool a, cases_Bool b, cases_Bool d)
+    rw (sym (is c)) (grind (arith, common_steps, cases_Bool (K c v), cases_Bool (eqb v 0), cases_Bool (eqb (c / w) above && has_bit over (c % w)), cases_Bool (eqb (c / w) y && has_bit own (c % w)), cases_Bool (eqb (c / w) below && has_bit under (c % w)))))

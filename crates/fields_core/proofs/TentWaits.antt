@@ -15,7 +15,7 @@ use Rattle.fields_core.proofs.PlaneSweeps.{around-inside, around-lost, back-whol
 unfoldable use Rattle.fields_core.proofs.IdleLemmas.{any_has}
 use Rattle.engine_core.proofs.JudgeLemmas.{scope_le-longest}
 use Rattle.fields_core.specs.declared.planes.tents.tent_notes.TentNotes.{TentNotes}
-use Rattle.fields_core.proofs.CellLemmas.{place-on}
+use Rattle.fields_core.proofs.CellLemmas.{first-off, place-on}
 
 -- What waits of Tents: where its houses lie, what stays idle while others of a kind are visited, and what is idle where a closing begins.
 -- ---- where houses lie
@@ -194,9 +194,7 @@ rested-at {bits} {p} {planes} {place} {none} {now} {zeros} {ones} lawful are siz
 
 pub place-in_planes : (p : Tents) (planes : Layers) {from : Option ℕ} {place : ℕ}
     → planes.size ≡ p.size → from ≡ Some place → IsClosedBut (tent_rules p) (has planes) from → place < cells_of planes
-place-in_planes p planes {from} {place} size is closed =
-    let around : IsClosedAround (tent_rules p) (has planes) place = rw is at closed in
-    rw size (around.within place around.value around.had).0
+place-in_planes p planes {from} {place} size is closed = grind (arith, common_steps)
 
 -- ---- the houses of a kind
 abbrev column_house : Tents → ℕ → CountHouse
@@ -247,26 +245,13 @@ module _ (p : Tents) (lawful : IsTents p) where
 -- planes stay those of a puzzle while they lose values
 pub field-further : {room : ℕ} {p : Tents} {from to : Layers} {words : List ℕ} → IsFieldOf room p from words → IsFurther from to → ArePlanesAlive to
     → IsFieldOf room p to words
-field-further field further alive = record {
-  lawful = field.lawful;
-  narrow = field.narrow;
-  low = field.low;
-  size = further.same_size ∙ field.size;
-  trees = field.trees;
-  bare = λ c on. false_from_ne_true _ (λ has. true≢false (sym (further.inside c 1 has) ∙ field.bare c on));
-  alive = alive;
-}
+field-further field further alive = grind (arith, common_steps, false_from_ne_true)
 
 -- ---- visits of the lines of a kind that wait
 pub kind-first : {W : Type 0} (bits : W → ℕ) (p : Tents) (kind : Kind) (waits : Waits W) {left : ℕ → Bool} {from : Layers} → ArePlanesAlive from
     → AreTentsRested bits p waits (has from) → ((k : ℕ) → left k ≡ (has_bit (waiting bits waits kind) k && ltb k (kind_lines p kind)))
     → ArePassed (kind_houses p kind) (kind_lines p kind) left from from
-kind-first bits p kind waits alive rested is = passed-first (kind_houses p kind) alive
-    (λ k on. ltb-true _ _ (and_parts _ _ (sym (is k) ∙ on)).1)
-    (λ k lt off. rested kind k lt (by (has_bit (waiting bits waits kind) k) (rw (lt-ltb _ _ lt) at (sym (is k) ∙ off))))
-  where
-    by : (a : Bool) → (a && true) ≡ false → a ≡ false
-    by a e = grind (arith, common_steps, cases_Bool a)
+kind-first bits p kind waits alive rested is = grind (arith, common_steps, passed-first, ltb-true, and_parts, first-off, lt-ltb)
 
 -- Tents on planes: the sides that the memory is for, and what a closing asks of planes.
 -- ---- the sides that the memory is for

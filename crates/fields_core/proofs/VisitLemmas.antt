@@ -1,9 +1,9 @@
 -- Visits of count houses, one after another; of those of one at most.
-use Rattle.fields_core.proofs.Common.{AllByRecursion, AreHouses, AreMet, ArePlanesAlive, AreVisited, Bool, Candidates, CountHouse, CountPuzzle, IsBroken, IsFurther, IsHouse, IsInside, IsTally, Layers, List, Tally, [], after, after_house, after_houses, and-false, and-true, and_parts, ap, append-nil, append_assoc, arith, cases_Bool, cases_eq, cells_of, common_steps, count_by, count_house_of, count_puzzle, eq-eqb, eqb, eqb-true, false, false_from_ne_true, false≢true, fun_ext, further-more, further-none, get_or-append_right, get_or-append_seam, get_or_append_left, has, has_place, has_place-at, has_place-here, houses_below, inl, inr, is_empty, is_open, le-ltb, length, length-append, list_any, lt-ltb, ltb, meets, ne_eqb, no_count_house, not, or_cases, range_with_len, refl, slice_index, subst, suc, sym, true, true≢false, zero, ℕ, ◌&&◌, ◌*◌, ◌++◌, ◌+◌, ◌-◌, ◌<◌, ◌||◌, ◌∙◌, ◌∷◌, ◌≡◌, ◌≢◌, ◌≤◌, ◌⊎◌}
+use Rattle.fields_core.proofs.Common.{AllByRecursion, AreHouses, AreMet, ArePlanesAlive, AreVisited, Bool, Candidates, CountHouse, CountPuzzle, IsBroken, IsFurther, IsHouse, IsInside, IsTally, Layers, List, Tally, [], after, after_house, after_houses, and-false, and-true, and_parts, ap, append-nil, append_assoc, arith, cases_Bool, cases_eq, cells_of, common_steps, count_by, count_house_of, count_puzzle, eq-eqb, eqb, eqb-true, false, false_from_ne_true, false≢true, fun_ext, further-more, further-none, get_or-append_right, get_or-append_seam, has, has_place, has_place-at, has_place-here, houses_below, inl, inr, is_empty, is_open, le-ltb, length, length-append, list_any, lt-ltb, ltb, meets, ne_eqb, no_count_house, not, or_cases, range_with_len, refl, slice_index, subst, suc, sym, true, true≢false, zero, ℕ, ◌&&◌, ◌*◌, ◌++◌, ◌+◌, ◌-◌, ◌<◌, ◌||◌, ◌∙◌, ◌∷◌, ◌≡◌, ◌≢◌, ◌≤◌, ◌⊎◌}
 use Rattle.engine_core.specs.Closing.{replay}
 use Rattle.fields_core.proofs.HouseLemmas.{below-more}
 use Rattle.fields_core.proofs.CountKept.{after-at, has-value, off-scope}
-use Rattle.fields_core.proofs.PlaceLists.{count-cons, count-none, count-some, num, some-counted}
+use Rattle.fields_core.proofs.PlaceLists.{count-cons, count-none, count-some, some-counted}
 
 -- Visits of count houses, one after another, and which houses are among those of a puzzle.
 -- ---- the board after visits
@@ -36,15 +36,7 @@ replay-on : (front houses : List CountHouse) (cells : ℕ) (blocked : ℕ → Bo
     (range_with_len (length front) (length houses)) ≡ after_houses houses K
 unfolding replay after_houses
 replay-on front [] cells blocked is_solution K = refl
-replay-on front (house ∷ houses) cells blocked is_solution K =
-    let all : front ++ house ∷ houses ≡ (front ++ house ∷ []) ++ houses = sym
-    (append_assoc front (house ∷ []) houses) in
-    let long : length (front ++ house ∷ []) ≡ length front + 1 = length-append front (house ∷ []) in
-    ap (λ (L : Candidates). replay (count_puzzle cells blocked (front ++ house ∷ houses) is_solution) L
-    (range_with_len (length front + 1) (length houses)))
-    (visit-is cells blocked (front ++ house ∷ houses) is_solution (length front) K ∙ ap (λ h. after_house h K)
-    (get_or-append_seam front house houses no_count_house))
-    ∙ rw (all, ← long) (replay-on (front ++ house ∷ []) houses cells blocked is_solution (after_house house K))
+replay-on front (house ∷ houses) cells blocked is_solution K = grind (arith, common_steps, length-append, visit-is, get_or-append_seam, replay-on (front ++ house ∷ []) houses cells blocked is_solution (after_house house K))
 
 pub replay-visits : (cells : ℕ) (blocked : ℕ → Bool) (houses : List CountHouse) (is_solution : List ℕ → Bool)
     (K : Candidates)
@@ -82,33 +74,12 @@ visited-one {house} is some left broken alive further = record {
 -- then of more
 pub visited-more : {front back : List CountHouse} {p q r : Layers} {full fills : Bool}
     → AreVisited front p q full → full ≡ true → AreVisited back q r fills → AreVisited (front ++ back) p r fills
-visited-more {front} {back} {p} {q} {r} first is next = record {
-  left = λ e. next.left e ∙ ap (after_houses back) (first.left is) ∙ sym (visits-append front back (has p));
-  dies = λ e. let w = next.dies e in (
-    w.0,
-    rw (first.further.same_size) at w.1,
-    λ v low. ap
-        (λ (L : Candidates). L w.0 v) (visits-append front back (has p) ∙ ap (after_houses back)
-        (sym (first.left is))) ∙ w.2 v low,
-  );
-  alive = next.alive;
-  further = further-more p q r first.further next.further;
-}
+visited-more {front} {back} {p} {q} {r} first is next = grind (arith, common_steps, visits-append, further-more)
 
 -- or no more, where a cell has no value
 pub visited-dead : {front : List CountHouse} (back : List CountHouse) {p q : Layers} {full : Bool}
     → AreVisited front p q full → full ≡ false → AreVisited (front ++ back) p q full
-visited-dead {front} back {p} first is = record {
-  left = λ e. absurd (true≢false (sym e ∙ is));
-  dies = λ e. let w = first.dies is in (
-    w.0,
-    w.1,
-    λ v low. ap (λ (L : Candidates). L w.0 v) (visits-append front back (has p)) ∙ false_from_ne_true _ (λ on.
-        true≢false (sym (visits-inside back (after_houses front (has p)) w.0 v on) ∙ w.2 v low)),
-  );
-  alive = first.alive;
-  further = first.further;
-}
+visited-dead {front} back {p} first is = grind (arith, common_steps, visits-append, false_from_ne_true, visits-inside)
 
 -- ---- the houses of the numbers below n
 pub below-rest : (f : ℕ → List CountHouse) (n d : ℕ)
@@ -158,11 +129,7 @@ pub among-one : (house : CountHouse) → IsAmong house (house ∷ [])
 among-one house = record { number = 0; within = omega arith; is = refl }
 
 pub among-front : {house : CountHouse} {front : List CountHouse} (back : List CountHouse) → IsAmong house front → IsAmong house (front ++ back)
-among-front {front} back among = record {
-  number = among.number;
-  within = omega (arith, length-append front back, among.within);
-  is = get_or_append_left front back no_count_house among.number among.within ∙ among.is;
-}
+among-front {front} back among = grind (arith, common_steps, length-append)
 
 pub among-back : {house : CountHouse} (front : List CountHouse) {back : List CountHouse} → IsAmong house back → IsAmong house (front ++ back)
 among-back front {back} among = record {
@@ -184,8 +151,7 @@ pub among-house : {house : CountHouse} {houses : List CountHouse} (cells : ℕ) 
 among-house cells are among = subst (IsHouse cells) among.is (are among.number among.within)
 
 pub among-met : {p : CountPuzzle} {g : List ℕ} {house : CountHouse} → AreMet p g → IsAmong house p.houses → 0 < length house.places → meets house g ≡ true
-among-met {p} {g} met among =
-    subst (λ (h : CountHouse). 0 < length h.places → meets h g ≡ true) among.is (met.meets_each among.number among.within)
+among-met {p} {g} met among = grind (arith, common_steps)
 
 -- Visits of houses of one at most, one after another, by the cells that can have 0.
 abbrev pub zeros_of : Candidates → ℕ → Bool
@@ -259,40 +225,22 @@ after-met {cells} {house} {K} c v full one = elim (cases_Bool (K c v)) [
 -- no cell loses 0
 pub zeros-stay : {cells : ℕ} {house : CountHouse} {K : Candidates} → IsFull cells K
     → IsOneAtMost cells (zeros_of K) house → zeros_of (after_house house K) ≡ zeros_of K
-zeros-stay {house} {K} full one = fun_ext λ d. after-met d 0 full one ∙ by (K d 0)
-  where
-    by : (a : Bool) → (a && not false) ≡ a
-    by a = grind (arith, common_steps, cases_Bool a)
+zeros-stay {house} {K} full one = fun_ext λ d. after-met d 0 full one ∙ and-true (K d 0)
 
 full-after : {cells : ℕ} {house : CountHouse} {K : Candidates} → IsFull cells K
     → IsOneAtMost cells (zeros_of K) house → IsFull cells (after_house house K)
-full-after {cells} {house} {K} full one = record {
-  low = λ c v on. full.low c v (and_parts _ _ (sym (after-met c v full one) ∙ on)).0;
-  some = λ c lt. by c (is_met (zeros_of K) house c) (after-met c 0 full one) (after-met c 1 full one) (full.some c lt);
-}
-  where
-    by : (c : ℕ) (any : Bool) → after_house house K c 0 ≡ (K c 0 && not (false && (K c 0 && any)))
-        → after_house house K c 1 ≡ (K c 1 && not (true && (K c 0 && any)))
-        → (K c 0 ≡ true) ⊎ (K c 1 ≡ true)
-        → (after_house house K c 0 ≡ true) ⊎ (after_house house K c 1 ≡ true)
-    by c any none one some = grind (arith, common_steps, cases_Bool (K c 0), cases_Bool (K c 1), cases_Bool any)
+full-after {cells} {house} {K} full one = grind (arith, common_steps, and_parts, after-met, cases_Bool)
 
 -- ---- houses of one at most, one after another
 pub visits-met : {cells : ℕ} (houses : List CountHouse) (K : Candidates) → IsFull cells K
     → AllByRecursion (IsOneAtMost cells (zeros_of K)) houses → after_houses houses K ≡ without_met houses K
 unfolding after_houses without_met
-visits-met [] K full all = fun_ext λ c. fun_ext λ v. by (K c v) (K c 0) (eqb v 1)
-  where
-    by : (a b e : Bool) → a ≡ (a && not (e && (b && false)))
-    by a b e = grind (arith, common_steps, cases_Bool a, cases_Bool b, cases_Bool e)
+visits-met [] K full all = grind (arith, common_steps, cases_Bool)
 visits-met {cells} (house ∷ houses) K full (one, all) =
     let stay = zeros-stay full one in
     visits-met houses (after_house house K) (full-after full one) (subst (λ (z : ℕ → Bool). AllByRecursion (IsOneAtMost cells z) houses) (sym stay) all)
     ∙ fun_ext λ c. fun_ext λ v. rw (stay, ap (λ (f : ℕ → Bool). f c) stay, after-met c v full one)
-    (by (K c v) (eqb v 1) (K c 0) (is_met (zeros_of K) house c) (list_any (λ h. is_met (zeros_of K) h c) houses))
-  where
-    by : (a e z i j : Bool) → ((a && not (e && (z && i))) && not (e && (z && j))) ≡ (a && not (e && (z && (i || j))))
-    by a e z i j = grind (arith, common_steps, cases_Bool a, cases_Bool e, cases_Bool z, cases_Bool i, cases_Bool j)
+    (grind (arith, common_steps, cases_Bool (K c v), cases_Bool (eqb v 1), cases_Bool (K c 0), cases_Bool (is_met (zeros_of K) house c), cases_Bool (list_any (λ h. is_met (zeros_of K) h c) houses)))
 
 -- ---- two cells of a house without 0
 pub count-two : (test : ℕ → Bool) (xs : List ℕ) (d e : ℕ) → d ≢ e → has_place xs d ≡ true → has_place xs e ≡ true
@@ -311,9 +259,7 @@ count-two test (x ∷ xs) d e ne in_d in_e on_d on_e = elim (or_cases (eqb x d) 
 ]
   where
     first : (a b : ℕ) → x ≡ a → test a ≡ true → has_place xs b ≡ true → test b ≡ true → 1 < count_by test (x ∷ xs)
-    first a b same on_a there on_b =
-        let one : num (test x) ≡ 1 = rw (same, on_a) refl in
-        omega (arith, count-cons test x xs, one, count-some test xs b there on_b)
+    first a b same on_a there on_b = grind (arith, common_steps, count-cons, count-some)
 
 after-two : {cells : ℕ} {house : CountHouse} (K : Candidates) {d e v : ℕ} → IsHouse cells house → house.most ≡ 1
     → d ≢ e → has_place house.places d ≡ true → has_place house.places e ≡ true → K d 0 ≡ false → K e 0 ≡ false

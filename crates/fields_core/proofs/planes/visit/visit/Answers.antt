@@ -1,4 +1,4 @@
-use Rattle.fields_core.proofs.Common.{arith, common_steps, eq-eqb, eqb, inl, inr, ne_eqb, refl, ℕ, ◌-◌, ◌<◌, ◌∙◌, ◌≡◌}
+use Rattle.fields_core.proofs.Common.{arith, common_steps, eq-eqb, eqb, inl, inr, ne_eqb, ℕ, ◌-◌, ◌<◌, ◌∙◌, ◌≡◌}
 use Rattle.fields_core.proofs.PartLemmas.{at_bound, bound-reached, broken, counted-fewer, none-undecided, struck-alive, visited-idle, visited-struck}
 use Rattle.fields_core.proofs.planes.visit.visit.Goals as goal
 use Rattle.fields_core.proofs.planes.visit.visit.Goals.{After-strike, then-may-least-via-then-may-least, then-may-least-via-else-may-least+then-most-must}
@@ -27,10 +27,7 @@ returns-then-may-least-clause-broken g c = λ _ house of.
 -- the value that is struck is that of the bound that is reached
 struck : (g : _) (c : After-strike g) → (c.from.result < 2) × ((v : ℕ) → v < 2
     → at_bound c.args.least c.args.most (c.count-may.result.0 - c.count-may.result.1) c.count-may.result.0 v ≡ eqb v c.from.result)
-struck g c =
-    let fewer = counted-fewer c.requires.alive c.count-may.ensures in
-    bound-reached c.else-least-may.either c.if-may-least.false c.if-most-must.false (omega (arith, fewer, c.if-undecided-gt0.true)) c.requires.order
-    (λ e. c.from.ensures ∙ rw (eq-eqb _ _ e) refl) (λ ne. c.from.ensures ∙ rw (ne_eqb _ _ ne) refl)
+struck g c = grind (arith, common_steps, counted-fewer, bound-reached, eq-eqb, ne_eqb, c.requires.alive, c.count-may.ensures, c.if-may-least.false, c.if-most-must.false, c.if-undecided-gt0.true, c.requires.order, c.from.ensures)
 
 pub returns-then-undecided-gt0-clause-left : goal.returns-then-undecided-gt0-clause-left
 returns-then-undecided-gt0-clause-left g c = λ _ house of.

@@ -1,11 +1,11 @@
-use Rattle.fields_core.proofs.Common.{ArePlanesOf, AreSafeInColumns, AreVisited, AreWhitesIdleBut, Bool, IsRowOf, and_parts, arith, cases_Bool, common_steps, false, has, has_bit, houses_below, inl, inr, light_cells, lit_house, lits_of_row, lt-ltb, ltb-true, map, not, or_cases, or_parts, place-in, refl, slice_index, sym, true, true≢false, white, ℕ, ◌&&◌, ◌*◌, ◌+◌, ◌<◌, ◌∙◌, ◌≡◌, ◌≤◌}
+use Rattle.fields_core.proofs.Common.{ArePlanesOf, AreSafeInColumns, AreVisited, AreWhitesIdleBut, IsRowOf, ℕ, and_parts, ap, arith, cases_Bool, false, has, has_bit, houses_below, inl, inr, light_cells, lit_house, lits_of_row, lt-ltb, ltb-true, map, not, or_cases, or_parts, place-in, refl, slice_index, sym, true, true≢false, white, ◌*◌, ◌+◌, ◌<◌, ◌∙◌, ◌≡◌, ◌≤◌}
 use Rattle.fields_core.proofs.IdleLemmas.{visited-skip}
 use Rattle.fields_core.proofs.LightRuleLemmas.{light-board}
 use Rattle.fields_core.proofs.LightSafeCells.{joined-down, safe-moved}
 use Rattle.fields_core.proofs.LightReach.{away-from}
 use Rattle.fields_core.proofs.LightRunOrder.{column-white-start}
 use Rattle.fields_core.proofs.LightSweeps.{black-idle, column-safe, lits-are, lits-done, lits-safe, lits-stay, out-idle, planes-full, planes-next, ready-next, row-lits, row-stays, rows-safe}
-use Rattle.fields_core.proofs.CellLemmas.{row-read, rows-read}
+use Rattle.fields_core.proofs.CellLemmas.{first-off, row-read, rows-read, second-off}
 use Rattle.fields_core.proofs.VisitLemmas.{sweep-broken, sweep-first, sweep-more}
 use Rattle.fields_core.proofs.planes.light_up.light_notes.LightNotes.sweep_cells.Goals as goal
 use Rattle.fields_core.proofs.planes.light_up.light_notes.LightNotes.sweep_cells.Goals.{After-whites-some, After-settle_whites}
@@ -50,22 +50,16 @@ module _ (g : _) (c : After-whites-some g) where
   pub idle : AreWhitesIdleBut c.args.puzzle.now (g.W.Word.bits c.whites-some.result) c.loop-y.y (has c.loop-y.planes)
   idle x lt off = elim (cases_Bool (has_bit (g.W.Word.bits c.but.result) x)) [
     | inl left ↦
-        let p = c.args.puzzle.now in let lines = or_parts _ _ (apart left (sym (c.whites-some.ensures x) ∙ off)) in
+        let p = c.args.puzzle.now in let lines = or_parts _ _ (second-off left (sym (c.whites-some.ensures x) ∙ off)) in
         lits-stay c.requires.ready.planes_of (omega (arith, y-in)) y-in lt c.loop-y.invariant.visited
         (c.requires.ready.rested.whites (c.loop-y.y * p.size.w + x) (place-in p.size.w p.size.h c.loop-y.y x y-in lt)
         (away-from g.W.Word.bits p _ c.requires.ready.planes_of.lawful y-in lt (λ on. true≢false (sym on ∙ lines.0)) (λ k k_in on column joined. true≢false (sym column ∙ lines.1))))
     | inr gone ↦ elim (cases_Bool (has_bit (g.W.Word.bits c.either-above.result) x)) [
       | inl on ↦ column-safe _ of-now.lawful (planes-full c.args.puzzle.now c.loop-y.planes of-now.size of-now.alive) (passed x on)
       | inr out ↦ black-idle c.args.puzzle.now _ (has c.loop-y.planes) (sym (whites x ∙ rw (lt-ltb _ _ lt) refl)
-          ∙ none (has_bit (g.W.Word.bits c.index-whites.result.now) x) (sym (c.but.ensures x ∙ rw out refl) ∙ gone))
+          ∙ first-off (ap not out) (sym (c.but.ensures x) ∙ gone))
     ]
   ]
-    where
-      none : (a : Bool) → (a && not false) ≡ false → a ≡ false
-      none a e = grind (arith, common_steps, cases_Bool a)
-
-      apart : {a b : Bool} → a ≡ true → (a && b) ≡ false → b ≡ false
-      apart {a} {b} on e = grind (arith, common_steps, cases_Bool a, cases_Bool b)
 
 pub loop-y-init : goal.loop-y-init
 loop-y-init g c = record {

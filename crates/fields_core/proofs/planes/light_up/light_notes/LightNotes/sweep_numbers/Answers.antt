@@ -1,8 +1,9 @@
-use Rattle.fields_core.proofs.Common.{Bool, and_parts, arith, cases_Bool, common_steps, false, has, has_bit, lt-ltb, ltb, ltb-true, numbers_of_row, refl, sym, true, ℕ, ◌&&◌, ◌<◌, ◌∙◌, ◌≡◌}
+use Rattle.fields_core.proofs.Common.{Bool, and_parts, arith, false, has, has_bit, lt-ltb, ltb, ltb-true, numbers_of_row, refl, sym, true, ℕ, ◌&&◌, ◌<◌, ◌∙◌, ◌≡◌}
 use Rattle.fields_core.proofs.IdleLemmas.{fewer-on, from-on, from-off, passed-all, passed-broken, passed-first, passed-next, rest-off, rest-on}
 use Rattle.fields_core.proofs.LightSweeps.{planes-next, ready-next}
 use Rattle.fields_core.proofs.planes.light_up.light_notes.LightNotes.sweep_numbers.Goals as goal
 use Rattle.fields_core.proofs.planes.light_up.light_notes.LightNotes.sweep_numbers.Goals.{After-but-left}
+use Rattle.fields_core.proofs.CellLemmas.{first-off}
 
 -- of the rows of the grid those that a word has
 module _ (h : ℕ) (waits rows both : ℕ → Bool) (rows_are : (k : ℕ) → rows k ≡ ltb k h) (is : (k : ℕ) → both k ≡ (waits k && rows k)) where
@@ -10,10 +11,7 @@ module _ (h : ℕ) (waits rows both : ℕ → Bool) (rows_are : (k : ℕ) → ro
   row-on k on = ltb-true _ _ (sym (rows_are k) ∙ (and_parts _ _ (sym (is k) ∙ on)).1)
 
   row-off : {k : ℕ} → k < h → both k ≡ false → waits k ≡ false
-  row-off {k} lt off = by (waits k) (rows k) (rows_are k ∙ lt-ltb _ _ lt) (sym (is k) ∙ off)
-    where
-      by : (a b : Bool) → b ≡ true → (a && b) ≡ false → a ≡ false
-      by a b on e = grind (arith, common_steps, cases_Bool a, cases_Bool b)
+  row-off {k} lt off = first-off (rows_are k ∙ lt-ltb _ _ lt) (sym (is k) ∙ off)
 
 pub loop-left-init : goal.loop-left-init
 loop-left-init g c =

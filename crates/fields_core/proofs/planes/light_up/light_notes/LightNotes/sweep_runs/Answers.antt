@@ -1,10 +1,11 @@
-use Rattle.fields_core.proofs.Common.{AreVisited, Bool, Light, RunKind, and_parts, arith, cases_Bool, common_steps, false, has, houses_below, light_cells, lt-ltb, ltb-true, refl, run_houses, run_lines, sym, true, ℕ, ◌&&◌, ◌∙◌, ◌≡◌, ◌≤◌}
+use Rattle.fields_core.proofs.Common.{AreVisited, Light, RunKind, and_parts, false, has, houses_below, light_cells, lt-ltb, ltb-true, refl, run_houses, run_lines, sym, true, ℕ, ◌∙◌, ◌≤◌}
 use Rattle.fields_core.specs.declared.planes.light_up.waits.RunKind.TheVariants.{Rows, Columns}
 use Rattle.fields_core.proofs.IdleLemmas.{fewer-on, passed-all, passed-broken, passed-first, rest-on}
 use Rattle.fields_core.proofs.HouseOrder.{quiet-next, singles-quiet}
 use Rattle.fields_core.proofs.LightSweeps.{planes-next, ready-next, runs-done, runs-single}
 use Rattle.fields_core.proofs.planes.light_up.light_notes.LightNotes.sweep_runs.Goals as goal
 use Rattle.fields_core.proofs.planes.light_up.light_notes.LightNotes.sweep_runs.Goals.{After-settle_runs}
+use Rattle.fields_core.proofs.CellLemmas.{first-off}
 
 pub loop-left-init : goal.loop-left-init
 loop-left-init g c =
@@ -12,11 +13,8 @@ loop-left-init g c =
     let all = c.lines.ensures p r.planes_of.size in
     record {
       passed = passed-first (run_houses p c.args.kind) r.planes_of.alive (λ k on. ltb-true _ _ (sym (all k) ∙ (and_parts _ _ (sym (c.both-left.ensures k) ∙ on)).1))
-          (λ k lt off. r.rested.runs c.args.kind k lt (rw c.runs.ensures at (by _ _ (all k ∙ lt-ltb _ _ lt) (sym (c.both-left.ensures k) ∙ off))));
+          (λ k lt off. r.rested.runs c.args.kind k lt (rw c.runs.ensures at (first-off (all k ∙ lt-ltb _ _ lt) (sym (c.both-left.ensures k) ∙ off))));
     }
-  where
-    by : (a b : Bool) → b ≡ true → (a && b) ≡ false → a ≡ false
-    by a b on e = grind (arith, common_steps, cases_Bool a, cases_Bool b)
 
 pub visit_runs-requires-clause-planes : goal.visit_runs-requires-clause-planes
 visit_runs-requires-clause-planes g c = let v = c.loop-left.invariant.passed.visited in planes-next c.requires.ready.planes_of v.further v.alive

@@ -34,7 +34,4 @@ loop-y-preserved g c =
     }
 
 pub returns-clause-start : goal.returns-clause-start
-returns-clause-start g c =
-    let i = c.loop-y.invariant in
-    let last : c.loop-y.y ≡ c.args.puzzle.now.size.h = (let b = c.loop-y.auto.y-end in let e = c.loop-y-test.false in omega (arith, c.rows-y-end.ensures)) in
-    start-all i.started (rw last (omega arith))
+returns-clause-start g c = grind (arith, common_steps, start-all, c.loop-y.invariant, c.loop-y.auto.y-end, c.loop-y-test.false, c.rows-y-end.ensures)
