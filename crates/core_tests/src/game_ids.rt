@@ -1,9 +1,7 @@
 //! Game IDs and printed grids.
 
-mod grids;
 mod ids;
 mod limits;
-mod puzzles;
 mod sizes;
 
 use gameid_core::{

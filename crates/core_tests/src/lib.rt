@@ -4,11 +4,7 @@
 #![tactic(auto)]
 
 #[cfg(test)]
-mod engine;
-#[cfg(test)]
 mod fields;
-#[cfg(test)]
-mod fillings;
 #[cfg(test)]
 mod game_ids;
 #[cfg(test)]
@@ -18,8 +14,10 @@ mod makers;
 #[cfg(test)]
 mod pattern;
 #[cfg(test)]
-mod planes;
+mod rules;
+#[cfg(test)]
+mod small;
 #[cfg(test)]
 mod solo;
 #[cfg(test)]
-mod walks;
+mod stores;

@@ -1,6 +1,6 @@
 //! Long IDs, and large grids.
 
-use super::{fault_or_want, long_text, written_again};
+use super::{fault_or_want, long_text};
 use gameid_core::{Game, IdFault};
 use std::alloc::Global;
 use std::test::Fail;
@@ -78,32 +78,6 @@ fn long_ids(rt: HostRuntime) -> Result<(), Fail> {
     for &(game, front, piece, count, end, fault) in TEXTS.iter() {
         let found = fault_of_long(rt.alloc(), game, (front, piece, count, end))?;
         assert_eq!(rt; found, fault, "{game:?} {front} {count} {end}");
-    }
-    Ok(())
-}
-
-/// Whether a text of a front and so many copies of a piece is written as it was read.
-fn is_written_back(
-    alloc: Global,
-    game: Game,
-    front: &str,
-    piece: &str,
-    count: usize,
-) -> Result<bool, Fail> {
-    let text = long_text(alloc, front, piece, count, "")?;
-    let written = written_again(alloc, game, text.as_slice())?;
-    Ok(written.as_bytes() == text.as_slice())
-}
-
-#[test]
-fn large_grids_are_written_back(rt: HostRuntime) -> Result<(), Fail> {
-    for (game, front, piece, count) in [
-        (Game::Pattern, "120x1:", "/", 120),
-        (Game::LightUp, "120x2:", "B", 240),
-        (Game::Tents, "120x2:zzzzzzzzzo", ",0", 122),
-    ] {
-        let same = is_written_back(rt.alloc(), game, front, piece, count)?;
-        assert!(rt; same, "{game:?} {front}");
     }
     Ok(())
 }

@@ -1,5 +1,0 @@
-use Rattle.core_tests.proofs.Common.{not, slice_index, true, ℕ, ◌+◌, ◌<◌, ◌==◌, ◌≡◌}
-use Rattle.core_tests.proofs.engine.neighbours.NeighboursRules.accept.Given as goal
-
-abbrev pub invariant-loop-house : goal.invariant-loop-house
-invariant-loop-house l = (h : ℕ) → h < l.house → not (slice_index l.grid h == slice_index l.grid (h + 1)) ≡ true

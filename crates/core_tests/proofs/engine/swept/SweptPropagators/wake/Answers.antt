@@ -1,4 +1,0 @@
-use Rattle.core_tests.proofs.engine.swept.SweptPropagators.wake.Goals as goal
-
-pub returns : goal.returns
-returns c = record { marks = c.wake.ensures.marks }

@@ -1,5 +1,0 @@
-use Rattle.std.proofs.Common.{◌-◌}
-use Rattle.core_tests.proofs.fields.walks.Small.+are_paired.Given as goal
-
-abbrev pub decreases-are_paired : goal.decreases-are_paired
-decreases-are_paired l = 16 - l.cell

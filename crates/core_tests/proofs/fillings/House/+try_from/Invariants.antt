@@ -1,5 +1,0 @@
-use Rattle.std.proofs.Common.{◌-◌}
-use Rattle.core_tests.proofs.fillings.House.+try_from.Given as goal
-
-abbrev pub decreases-try_from : goal.decreases-try_from
-decreases-try_from l = 16 - l.cell

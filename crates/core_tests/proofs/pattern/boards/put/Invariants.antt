@@ -1,5 +1,0 @@
-use Rattle.core_tests.proofs.Common.{SameShape}
-use Rattle.core_tests.proofs.pattern.boards.put.Given as goal
-
-abbrev pub invariant-loop-k : goal.invariant-loop-k
-invariant-loop-k l = SameShape l.fn.board l.board

@@ -1,0 +1,115 @@
+//! The room of a store, and used stores beside new ones.
+
+use crate::rules::{lights, pattern, solo, tents};
+use engine_core::{Searchable, Store, Verdict};
+use gameid_core::Game;
+use solo_core::{Crossings, Fillings};
+use std::alloc::{AllocError, Global};
+use std::test::Fail;
+
+/// How many frames, changes, visits, houses that wait and cells of a scope a new store has room for.
+fn sizes<R: Searchable>(alloc: Global, rules: &R) -> Result<[usize; 5], AllocError> {
+    let sizes = Store::new(alloc, rules)?.sizes();
+    Ok([
+        sizes.frames,
+        sizes.trail,
+        sizes.trace,
+        sizes.queue,
+        sizes.scope,
+    ])
+}
+
+#[test]
+fn stores_have_their_sizes(rt: HostRuntime) -> Result<(), Fail> {
+    let lines = pattern(rt.alloc(), "2x2:1/1/1/1")?;
+    assert_eq!(rt; sizes(rt.alloc(), &lines)?, [4, 8, 8, 4, 2]);
+    let diagonals = solo::<Fillings>(rt.alloc(), "2x2x:p")?;
+    assert_eq!(rt; sizes(rt.alloc(), &diagonals)?, [16, 64, 238, 14, 4]);
+    let crossings = solo::<Crossings>(rt.alloc(), "2x2:p")?;
+    assert_eq!(rt; sizes(rt.alloc(), &crossings)?, [16, 64, 604, 28, 6]);
+    let local = lights(rt.alloc(), "2x2:2c")?;
+    assert_eq!(rt; sizes(rt.alloc(), &local)?, [4, 8, 0, 0, 3]);
+    Ok(())
+}
+
+/// The verdict on the second rules in a store that has searched the first, if it has room for them, and whether a new store
+/// counts the same.
+fn searched_after<R: Searchable>(
+    alloc: Global,
+    first: &R,
+    second: &R,
+) -> Result<Option<(Verdict, bool)>, AllocError> {
+    let (mut used, mut fresh) = (Store::new(alloc, first)?, Store::new(alloc, second)?);
+    used.solve(first, 100);
+    if !used.fits(second) {
+        return Ok(None);
+    }
+    let verdict = used.solve(second, 100);
+    let same = fresh.solve(second, 100) == verdict
+        && (used.trials(), used.turns(), used.deepest())
+            == (fresh.trials(), fresh.turns(), fresh.deepest());
+    Ok(Some((verdict, same)))
+}
+
+/// The same of the puzzles with the IDs.
+fn solved_after(
+    alloc: Global,
+    game: Game,
+    first: &str,
+    second: &str,
+) -> Result<Option<(Verdict, bool)>, Fail> {
+    Ok(match game {
+        Game::Solo => searched_after::<solo_core::SoloHouses>(
+            alloc,
+            &solo(alloc, first)?,
+            &solo(alloc, second)?,
+        )?,
+        Game::Pattern => searched_after(alloc, &pattern(alloc, first)?, &pattern(alloc, second)?)?,
+        Game::LightUp => searched_after(alloc, &lights(alloc, first)?, &lights(alloc, second)?)?,
+        Game::Tents => searched_after(alloc, &tents(alloc, first)?, &tents(alloc, second)?)?,
+    })
+}
+
+const WHITE: &str = "12x12:zzzzzn";
+
+/// As many cells in two rows.
+const LONG: &str = "72x2:aBBBBBBBBBBBBBBBBBBBBBBBBBBBBBBBBBBBBBBBBBBBBBBBBBBBBBBBBBBBBBBBBBBBBBBB\
+    BBBBBBBBBBBBBBBBBBBBBBBBBBBBBBBBBBBBBBBBBBBBBBBBBBBBBBBBBBBBBBBBBBBBBBBB";
+
+const WIDE: &str = "6x4:hbdbd,1,0,0,1,1,1,1,1,0,2";
+
+const TALL: &str = "4x6:am_f_,1,1,1,1,0,1,1,0,0,2";
+
+/// Puzzles, and the verdict on the second in a store of the first, if it has room.
+static USED: [(Game, &str, &str, Option<Verdict>); 10] = [
+    (
+        Game::Solo,
+        "2x2:1_2_3_4_3_4_1_2h",
+        "2x2:1_2_3_4_3a1_2h",
+        Some(Verdict::Several),
+    ),
+    (
+        Game::Pattern,
+        "2x2:1/1/1/1",
+        "2x2:2/2/2/2",
+        Some(Verdict::One),
+    ),
+    (Game::Pattern, "2x2:1/1/1/1", "2x3:////", None),
+    (Game::LightUp, "2x2:2c", "2x2:Bc", Some(Verdict::Several)),
+    (Game::LightUp, WHITE, LONG, Some(Verdict::One)),
+    (Game::LightUp, LONG, LONG, Some(Verdict::One)),
+    (Game::LightUp, LONG, WHITE, None),
+    (Game::Tents, WIDE, TALL, Some(Verdict::One)),
+    (Game::Tents, TALL, WIDE, Some(Verdict::One)),
+    (Game::Tents, "5x3:aiaa,1,0,2,0,0,2,0,1", WIDE, None),
+];
+
+#[test]
+fn used_stores_serve_as_new_ones(rt: HostRuntime) -> Result<(), Fail> {
+    for &(game, first, second, verdict) in USED.iter() {
+        let told = solved_after(rt.alloc(), game, first, second)?;
+        let same = verdict.map(|verdict| (verdict, true));
+        assert_eq!(rt; told, same, "{game:?} {second}");
+    }
+    Ok(())
+}
