@@ -1,4 +1,4 @@
-use Rattle.fields_core.proofs.Common.{ArePlanesOf, AreSafeInColumns, AreVisited, AreWhitesIdleBut, IsRowOf, ℕ, and_parts, ap, arith, cases_Bool, false, has, has_bit, houses_below, inl, inr, light_cells, lit_house, lits_of_row, lt-ltb, ltb-true, map, not, or_cases, or_parts, place-in, refl, slice_index, sym, true, true≢false, white, ◌*◌, ◌+◌, ◌<◌, ◌∙◌, ◌≡◌, ◌≤◌}
+use Rattle.fields_core.proofs.Common.{ArePlanesOf, AreSafeInColumns, AreVisited, AreWhitesIdleBut, IsRowOf, ℕ, and_parts, ap, arith, cases_Bool, has, has_bit, houses_below, inl, inr, light_cells, lit_house, lits_of_row, lt-ltb, ltb-true, map, not, or_cases, or_parts, place-in, refl, slice_index, sym, true, true≢false, white, ◌*◌, ◌+◌, ◌<◌, ◌∙◌, ◌≡◌, ◌≤◌}
 use Rattle.fields_core.proofs.IdleLemmas.{visited-skip}
 use Rattle.fields_core.proofs.LightRuleLemmas.{light-board}
 use Rattle.fields_core.proofs.LightSafeCells.{joined-down, safe-moved}

@@ -1,4 +1,4 @@
-use Rattle.fields_core.proofs.Common.{AreVisited, Light, RunKind, and_parts, false, has, houses_below, light_cells, lt-ltb, ltb-true, refl, run_houses, run_lines, sym, true, ℕ, ◌∙◌, ◌≤◌}
+use Rattle.fields_core.proofs.Common.{AreVisited, Light, RunKind, and_parts, has, houses_below, light_cells, lt-ltb, ltb-true, refl, run_houses, run_lines, sym, true, ℕ, ◌∙◌, ◌≤◌}
 use Rattle.fields_core.specs.declared.planes.light_up.waits.RunKind.TheVariants.{Rows, Columns}
 use Rattle.fields_core.proofs.IdleLemmas.{fewer-on, passed-all, passed-broken, passed-first, rest-on}
 use Rattle.fields_core.proofs.HouseOrder.{quiet-next, singles-quiet}
