@@ -46,15 +46,6 @@ pub some-column : (p : Light) {c : ℕ} → c < light_cells p → 0 < p.size.w
 some-column p lt = grind (arith, common_steps)
 
 -- The houses of Light Up are houses, and each solution meets them.
--- ---- what holds of each house of a list
-abbrev pub EachOf : (CountHouse → Type 0) → List CountHouse → Type 0
-EachOf P houses = (h : ℕ) → h < length houses → P (count_house_of houses h)
-
-pub each-append : (P : CountHouse → Type 0) (xs ys : List CountHouse) → EachOf P xs → EachOf P ys → EachOf P (xs ++ ys)
-each-append P [] ys ex ey h lt = ey h lt
-each-append P (x ∷ xs) ys ex ey zero lt = ex 0 (omega arith)
-each-append P (x ∷ xs) ys ex ey (suc h) lt = each-append P xs ys (λ k l. ex (suc k) (omega arith)) ey h (omega arith)
-
 -- ---- a house of the board that each solution meets
 pub record IsMet (cells : ℕ) (good : List ℕ → Bool) (house : CountHouse) : Type 0 where
   pub is_house : IsHouse cells house
