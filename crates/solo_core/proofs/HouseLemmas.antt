@@ -1,5 +1,6 @@
 -- Houses and crossings: their places, how they decide, and the start.
 use Rattle.solo_core.proofs.Common.{All, Block, Bool, Candidates, Column, Decision, Diagonal, FitsPlaces, House, IsDecided, IsSolo, IsSound, List, Listed, NamedHouse, Row, Solo, [], add-zero, all_below-from, all_houses, all_of, all_places, and_from, and_parts, ap, append-nil, append_assoc, arith, block-within, by_fillings-met, cases_Bool, common_steps, count_plain, count_x, crossing_scopes, crossings_of, deciding, div-mul-add, eqb, ext_get_or, false, filled_houses, fun_ext, get_or, get_or-append_right, get_or-map, get_or-map-range_with_len, get_or_append_left, given_stands, house_at, house_by, house_count, house_of, house_places, houses_of, houses_rules, if◌then◌else◌, inl, inr, is_solo_solution, kept-decided, length, length-append, length-map, length-map-range_with_len, listed-different, listed-within, lists_house, ltb, map, map-append, map-map, map-range_with_len_more, mod-mul-add, mul-le, mul-le-mul_right, nat_tests, no_house, no_repeat, not, numbers_of, only, places_of, range_with_len, refl, rules_of, scopes_of, setting_of, slice_index, solo_cells, solo_n, some_numbers, start, strikes_by_fillings, suc, sym, take, take-length, take_more, true, true≢false, zero, ℕ, ◌%◌, ◌&&◌, ◌*◌, ◌++◌, ◌+◌, ◌-◌, ◌/◌, ◌<◌, ◌||◌, ◌∙◌, ◌∷◌, ◌≡◌, ◌≤◌}
+use Rattle.solo_core.specs.Work.{closed_lists}
 use Rattle.engine_core.specs.Keeping.{AreSetsOf, IsKept}
 use Rattle.solo_core.specs.declared.houses.scope.VisitName.{VisitName}
 use Rattle.solo_core.specs.declared.houses.scope.VisitName.TheVariants as scope
@@ -52,13 +53,13 @@ kept-deciding settled p {decides} sound lt K are struck decided none =
     kept-houses settled p (deciding decides p) sound lt are struck (rw (decides-at decides p lt) at decided) (rw (decides-at decides p lt) at none)
 
 -- ---- crossings after the houses
-pub listed-deciding : (decides : Decision) (p : Solo) {first second : Listed} → first ≡ record { closed = []; begun = [] }
-    → second ≡ record { closed = first.closed ++ map (places_of p) (houses_of p); begun = [] } → second.closed ≡ all_places (deciding decides p)
+pub listed-deciding : (decides : Decision) (p : Solo) {first second : Listed} → first ≡ closed_lists []
+    → second ≡ closed_lists (first.closed ++ map (places_of p) (houses_of p)) → second.closed ≡ all_places (deciding decides p)
 listed-deciding decides p none e = grind (arith, common_steps, map-map)
 
-pub listed-crossings : (p : Solo) (none first second : Listed) → none ≡ record { closed = []; begun = [] }
-    → first ≡ record { closed = none.closed ++ map (places_of p) (houses_of p); begun = [] }
-    → second ≡ record { closed = first.closed ++ all_places (crossings_of p); begun = [] }
+pub listed-crossings : (p : Solo) (none first second : Listed) → none ≡ closed_lists []
+    → first ≡ closed_lists (none.closed ++ map (places_of p) (houses_of p))
+    → second ≡ closed_lists (first.closed ++ all_places (crossings_of p))
     → second.closed ≡ all_places (filled_houses p ++ crossings_of p)
 listed-crossings p none first second z a b = grind (arith, common_steps, listed-deciding, map-append)
 
@@ -78,17 +79,17 @@ diagonal_at true (suc (suc k)) d lt = absurd (omega arith)
 diagonal_at false k d lt = absurd (omega arith)
 
 -- ---- lists of places
-pub listed-none : {old : Listed} (all : List (List ℕ)) → old.begun ≡ [] → old ≡ record { closed = old.closed ++ take 0 all; begun = [] }
+pub listed-none : {old : Listed} (all : List (List ℕ)) → old.begun ≡ [] → old ≡ closed_lists (old.closed ++ take 0 all)
 listed-none all e = rw (append-nil, ← e) refl
 
 pub listed-more : {old new : Listed} (closed all : List (List ℕ)) (k : ℕ) {places : List ℕ} → k < length all → places ≡ get_or all k []
-    → old ≡ record { closed = closed ++ take k all; begun = [] } → new ≡ record { closed = old.closed ++ places ∷ []; begun = [] }
-    → new ≡ record { closed = closed ++ take (k + 1) all; begun = [] }
+    → old ≡ closed_lists (closed ++ take k all) → new ≡ closed_lists (old.closed ++ places ∷ [])
+    → new ≡ closed_lists (closed ++ take (k + 1) all)
 listed-more closed all k lt is was e = e ∙ rw (was, is, take_more all k [] lt, append_assoc) refl
 
 pub listed-all : {list : Listed} (closed all : List (List ℕ)) (k : ℕ) → length all ≡ k
-    → list ≡ record { closed = closed ++ take k all; begun = [] }
-    → list ≡ record { closed = closed ++ all; begun = [] }
+    → list ≡ closed_lists (closed ++ take k all)
+    → list ≡ closed_lists (closed ++ all)
 listed-all closed all k long was = was ∙ rw (← long, take-length all) refl
 
 -- the houses by their numbers
