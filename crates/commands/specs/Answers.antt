@@ -1,6 +1,5 @@
 -- A text with its status, which of them a run may leave, and what a run is asked for.
-use Rattle.std.specs.Prelude.{Bool, List, Option, String, Vec, false, max, string_bytes, true, ℕ, ◌*◌, ◌++◌, ◌<◌, ◌≡◌}
-use Rattle.commands.specs.Common.{Extent, IsGrid}
+use Rattle.std.specs.Prelude.{Bool, List, Option, Vec, false, max, true, ℕ, ◌++◌, ◌<◌, ◌≡◌}
 use Rattle.commands.specs.declared.answers.status.Status.{Status}
 use Rattle.commands.specs.declared.answers.status.Status.TheVariants.{Fine, GaveUp, Refused, Several, Wrong}
 use Rattle.commands.specs.declared.answers.status.Stop.{Stop}

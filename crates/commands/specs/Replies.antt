@@ -4,7 +4,7 @@ use Rattle.gameid_core.specs.declared.id.fault.IdFault.TheVariants.{TooLong, See
 use Rattle.gameid_core.specs.declared.grids.printed.Printed as printed
 use Rattle.gameid_core.specs.PrintedForm.{printed_grid}
 use Rattle.engine_core.specs.Verdict.{Outcome.NoSolution, Outcome.OneSolution, Outcome.SeveralSolutions, Outcome.GaveUp}
-use Rattle.commands.specs.Common.{IdFault, grid_text, RuleSystem, Outcome, verdict_of, IsTrueOf}
+use Rattle.commands.specs.Common.{IdFault, RuleSystem, Outcome, verdict_of, IsTrueOf}
 use Rattle.commands.specs.declared.answers.status.Status.{Status}
 use Rattle.commands.specs.declared.answers.status.Status.TheVariants as status
 use Rattle.commands.specs.Answers.{Answer, Text, answer_with, code_of}

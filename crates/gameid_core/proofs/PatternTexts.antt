@@ -1,5 +1,5 @@
 -- Pattern: the steps of a description, and that a text is read exactly where it spells a puzzle.
-use Rattle.gameid_core.specs.Common.{AllByRecursion, AreClues, BadByte, Bool, Bor, Cuts, Err, Extent, Gives, HasOneReading, IdFault, IsClue, IsExtent, IsNumeral, IsPattern, List, Ok, Pattern, Result, TakesNumber, TooFew, TooMany, [], after_digits, append-nil, append_assoc, arith, begins, common_steps, concat, cond, digits_front, drop, eqb, extent_of, false, flat_map, in_range, inl, inr, is_ascii_digit, join_with_byte, length, line_cells, lines_of, map, nat_tests, reading, refl, subst, sym, true, used, value, words, ℕ, ◌++◌, ◌+◌, ◌<◌, ◌>>=◌, ◌∙◌, ◌∷◌, ◌≡◌, ◌≤◌, ◌⊎◌}
+use Rattle.gameid_core.specs.Common.{AllByRecursion, AreClues, BadByte, Bool, Bor, Cuts, Err, Extent, Gives, HasOneReading, IdFault, IsClue, IsExtent, IsNumeral, IsPattern, List, Ok, Pattern, Result, TakesNumber, TooFew, TooMany, [], append-nil, append_assoc, arith, begins, common_steps, concat, cond, digits_front, drop, eqb, extent_of, false, flat_map, in_range, inl, inr, is_ascii_digit, join_with_byte, length, line_cells, lines_of, map, nat_tests, reading, refl, subst, sym, true, used, value, words, ℕ, ◌++◌, ◌+◌, ◌<◌, ◌>>=◌, ◌∙◌, ◌∷◌, ◌≡◌, ◌≤◌, ◌⊎◌}
 use Rattle.gameid_core.specs.PatternText.{GivesDigits, clue_number, clue_token, clues_at, pattern_end, pattern_step, SoFar, SpellsPattern, clues_text, pattern_behind, pattern_of}
 use Rattle.gameid_core.proofs.Reading.{IsWord, bind_ok, concat_words, cuts_joined, cuts_number, cuts_single, cuts_some, joined_cuts, numeral_cuts, numeral_word, only_of, reading_end, reading_of, reading_turn, words_are, words_nil, words_single}
 use Rattle.gameid_core.proofs.HeadLaws.{parts_of, plain_size, puzzle_again}

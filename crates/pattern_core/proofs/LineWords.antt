@@ -82,9 +82,9 @@ pub record IsShownTo (word : ℕ) (is : ℕ → Bool → Type 0) (at : ℕ) : Ty
 pub shown-none : (word : ℕ) (is : ℕ → Bool → Type 0) → ((k : ℕ) → has_bit word k ≡ false) → IsShownTo word is 0
 shown-none word is none = record { below = λ k lt. absurd (omega arith); beyond = λ k le. none k }
 
-pub shown-more : (word next : ℕ) (is : ℕ → Bool → Type 0) (on : Bool) (at : ℕ) → IsShownTo word is at
+pub shown-more : {word next : ℕ} (is : ℕ → Bool → Type 0) (on : Bool) (at : ℕ) → IsShownTo word is at
     → ((k : ℕ) → has_bit next k ≡ (has_bit word k || (on && eqb k at))) → is at on → IsShownTo next is (at + 1)
-shown-more word next is on at are with_it here = record {
+shown-more {word} is on at are with_it here = record {
   below = λ k lt. elim (cases_eq k at) [
     | inl e ↦ rw e (subst (is at) (sym (with_it at ∙ rw (are.beyond at (omega arith), eq-eqb at at refl) (and-true on))) here)
     | inr ne ↦ subst (is k) (sym (with_it k ∙ rw (ne_eqb k at ne) (ap (λ b. has_bit word k || b) (and-false on) ∙ or-false (has_bit word k)))) (are.below k (omega arith))
@@ -101,10 +101,10 @@ module _ (t : Track) (white black count : ℕ) where
   abbrev pub IsCellShown : ℕ → ℕ → Bool → Type 0
   IsCellShown v k on = (on && has_bit (word_of white black v) k) ≡ some_leads t (sets_of (sets_by white black count)) (cell_is k v) 0
 
-  pub shown-kept : (w b white' black' : ℕ) → IsShownTo w (IsCellShown 0) count → IsShownTo b (IsCellShown 1) count
+  pub shown-kept : {w b : ℕ} (white' black' : ℕ) → IsShownTo w (IsCellShown 0) count → IsShownTo b (IsCellShown 1) count
       → ((k : ℕ) → has_bit white' k ≡ (has_bit w k && has_bit white k)) → ((k : ℕ) → has_bit black' k ≡ (has_bit b k && has_bit black k))
       → AreRowsKept t (sets_by white black count) (sets_by white' black' count)
-  shown-kept w b white' black' on_white on_black is_white is_black = record {
+  shown-kept white' black' on_white on_black is_white is_black = record {
     as_many = length-sets white' black' count ∙ sym (length-sets white black count);
     bits = λ k v lt low. let less : k < count = omega (arith, length-sets white black count) in
         rw (sets-bit white' black' count k v less low, sets-bit white black count k v less low) (each k v less low);

@@ -3,7 +3,7 @@ use Rattle.engine_core.proofs.ClosingLemmas.{closure_closed}
 use Rattle.engine_core.proofs.JudgeLemmas.{full_unpicked, pick-inside}
 use Rattle.engine_core.proofs.LevelLemmas.{IsDescent, descend-dead, descend-full, descend-split, open-room, ready-onward, ready-push, split-room}
 use Rattle.engine_core.proofs.search.levels.Levels.descend.Goals as goal
-use Rattle.engine_core.proofs.search.levels.Levels.descend.Goals.{After-close-taken, After-pick, In-None, In-Some}
+use Rattle.engine_core.proofs.search.levels.Levels.descend.Goals.{After-close-taken, In-Some}
 
 -- what the closing left
 descent : (g : _) (c : After-close-taken g)

@@ -23,9 +23,9 @@ loop-at-preserved g c =
     let below = c.requires.below in
     let bit = λ (v : ℕ) (low : v < 2). sym (sets-bit white black c.args.count at v c.loop-at-test.true low) in
     let shown = shown_on room t sets (has c.loop-at.reached) at i.2 lt (has row) after in (
-      shown-more _ _ (IsCellShown t white black c.args.count 0) c.is_some.result at i.0 c.with_if-white.ensures
+      shown-more (IsCellShown t white black c.args.count 0) c.is_some.result at i.0 c.with_if-white.ensures
           (shown 0 (has ways.white) _ _ (omega arith) below c.ways_of-ways.ensures.white (c.is_some.ensures ∙ any_below-same _ (λ p. has ways.white p && has row p) room (λ p low. c.both.ensures p)) (bit 0 (omega arith))),
-      shown-more _ _ (IsCellShown t white black c.args.count 1) c.is_some-in-loop-at.result at i.1 c.with_if-black.ensures
+      shown-more (IsCellShown t white black c.args.count 1) c.is_some-in-loop-at.result at i.1 c.with_if-black.ensures
           (shown 1 (has ways.black) _ _ (omega arith) below c.ways_of-ways.ensures.black (c.is_some-in-loop-at.ensures ∙ any_below-same _ (λ p. has ways.black p && has row p) room (λ p low. c.both-in-loop-at.ensures p)) (bit 1 (omega arith))),
       reached_next room t sets (has c.loop-at.reached) (has c.led_by-reached.result) at below lt
           (λ p low. c.led_by-reached.ensures p low ∙ ap (λ s. led t s (has c.loop-at.reached) p) (c.set.ensures ∙ sym (sets-at white black c.args.count at c.loop-at-test.true))) i.2,
@@ -34,4 +34,4 @@ loop-at-preserved g c =
 pub returns : goal.returns
 returns g c =
     let i = c.loop-at.invariant in let all : c.loop-at.at ≡ c.args.count = omega (arith, c.loop-at-test.false) in
-    shown-kept _ _ _ _ _ _ _ _ (subst (IsShownTo _ _) all i.0) (subst (IsShownTo _ _) all i.1) c.both-2.ensures c.both-3.ensures
+    shown-kept _ _ _ c.args.count _ _ (subst (IsShownTo _ _) all i.0) (subst (IsShownTo _ _) all i.1) c.both-2.ensures c.both-3.ensures

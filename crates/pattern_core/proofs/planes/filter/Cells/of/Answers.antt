@@ -7,8 +7,8 @@ loop-k-init g c = (shown-none _ _ c.none.ensures, shown-none _ _ c.none-2.ensure
 
 pub loop-k-preserved : goal.loop-k-preserved
 loop-k-preserved g c = (
-  shown-more _ _ _ _ _ c.loop-k.invariant.0 c.with_if-cells.ensures refl,
-  shown-more _ _ _ _ _ c.loop-k.invariant.1 c.with_if-cells-in-loop-k.ensures refl,
+  shown-more _ _ _ c.loop-k.invariant.0 c.with_if-cells.ensures refl,
+  shown-more _ _ _ c.loop-k.invariant.1 c.with_if-cells-in-loop-k.ensures refl,
 )
 
 pub returns : goal.returns
