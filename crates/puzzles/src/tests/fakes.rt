@@ -1,20 +1,19 @@
-//! Readers and writers of the tests' own.
+//! Runs of the program over readers and writers of the tests' own.
+use crate::ends::read_end::ReadEnd;
+use crate::ends::write_end::WriteEnd;
+use crate::run::{run, run_on_bytes};
+use commands::{Sink, Source};
 use std::alloc::{AllocError, Global};
 use std::io;
 use std::io::{ErrorKind, Read, Write};
 
-/// A reader that counts its calls.
-pub trait Counted {
-    /// How many calls of `read` there were.
-    fn calls(&self) -> u32;
-}
-
 /// How the ends of a run cut: how many bytes a call moves at most, and at which call it fails, where
-/// 0 is none. The writer may fail at a flush.
+/// 0 is none. The reader may give its bytes again and again, and the writer fail at a flush.
 #[derive(Clone, Copy)]
 pub struct Ends {
     pub reads: usize,
     pub read_fails_at: u32,
+    pub is_endless: bool,
     pub writes: usize,
     pub write_fails_at: u32,
     pub flush_works: bool,
@@ -26,6 +25,7 @@ impl Ends {
         Ends {
             reads,
             read_fails_at: 0,
+            is_endless: false,
             writes,
             write_fails_at: 0,
             flush_works: true,
@@ -33,119 +33,53 @@ impl Ends {
     }
 }
 
-/// A reader that gives one byte a call, always the same, and never ends.
-#[derive(Drop)]
-pub struct Endless {
-    pub byte: u8,
-    pub calls: u32,
-}
-
-impl Endless {
-    /// A reader of this byte, before any call.
-    pub fn new(byte: u8) -> Endless {
-        Endless { byte, calls: 0 }
-    }
-}
-
-impl Read for Endless {
-    fn read(&mut self, buf: &mut [u8]) -> io::Result<usize> {
-        self.calls = self.calls.saturating_add(1);
-        match buf.first_mut() {
-            Some(first) => {
-                *first = self.byte;
-                Ok(1)
-            }
-            None => Ok(0),
-        }
-    }
-}
-
-impl Counted for Endless {
-    fn calls(&self) -> u32 {
-        self.calls
-    }
-}
-
-/// A reader that gives at most so many bytes a call, and fails at one call.
+/// A reader of some bytes, which cuts as the ends say.
 #[derive(Drop)]
 pub struct Chunks<'a> {
     pub rest: &'a [u8],
-    pub most: usize,
-    pub fails_at: u32,
+    pub ends: Ends,
     pub calls: u32,
-}
-
-impl<'a> Chunks<'a> {
-    /// A reader of these bytes, before any call. It fails at no call where `fails_at` is 0.
-    pub fn new(rest: &'a [u8], most: usize, fails_at: u32) -> Chunks<'a> {
-        Chunks {
-            rest,
-            most,
-            fails_at,
-            calls: 0,
-        }
-    }
 }
 
 impl Read for Chunks<'_> {
     fn read(&mut self, buf: &mut [u8]) -> io::Result<usize> {
         self.calls = self.calls.saturating_add(1);
-        if self.calls == self.fails_at {
+        if self.calls == self.ends.read_fails_at {
             return Err(io::Error::from(ErrorKind::Other));
         }
-        let count = self.most.min(buf.len()).min(self.rest.len());
+        let count = self.ends.reads.min(buf.len()).min(self.rest.len());
         let (now, later) = self.rest.split_at(count);
         buf[..count].copy_from_slice(now);
-        self.rest = later;
+        if !self.ends.is_endless {
+            self.rest = later;
+        }
         Ok(count)
     }
 }
 
-impl Counted for Chunks<'_> {
-    fn calls(&self) -> u32 {
-        self.calls
-    }
-}
-
-/// A writer that takes at most so many bytes a call, fails at one call, and may fail to flush.
+/// A writer that cuts as the ends say.
 #[derive(Drop)]
-pub struct Slow {
-    pub taken: Vec<u8>,
-    pub most: usize,
-    pub fails_at: u32,
-    pub calls: u32,
-    pub flushes: u32,
-    pub flush_works: bool,
-}
-
-impl Slow {
-    /// A writer that has taken nothing, and cuts as the ends say.
-    pub fn new(alloc: Global, ends: Ends) -> Slow {
-        Slow {
-            taken: Vec::new(alloc),
-            most: ends.writes,
-            fails_at: ends.write_fails_at,
-            calls: 0,
-            flushes: 0,
-            flush_works: ends.flush_works,
-        }
-    }
+struct Slow {
+    taken: Vec<u8>,
+    ends: Ends,
+    calls: u32,
+    flushes: u32,
 }
 
 impl Write for Slow {
     fn write(&mut self, buf: &[u8]) -> io::Result<usize> {
         self.calls = self.calls.saturating_add(1);
-        if self.calls == self.fails_at {
+        if self.calls == self.ends.write_fails_at {
             return Err(io::Error::from(ErrorKind::Other));
         }
-        let count = self.most.min(buf.len());
+        let count = self.ends.writes.min(buf.len());
         self.taken.extend_from_slice(&buf[..count])?;
         Ok(count)
     }
 
     fn flush(&mut self) -> io::Result<()> {
         self.flushes = self.flushes.saturating_add(1);
-        if self.flush_works {
+        if self.ends.flush_works {
             Ok(())
         } else {
             Err(io::Error::from(ErrorKind::Other))
@@ -160,4 +94,56 @@ pub fn texts(alloc: Global, words: &[&str]) -> Result<Vec<String>, AllocError> {
         all.push(String::from_str(alloc, word)?)?;
     }
     Ok(all)
+}
+
+/// What a run writes, and its status.
+pub fn outcome(alloc: Global, words: &[&str], input: &[u8]) -> Result<(Vec<u8>, u8), AllocError> {
+    let words = texts(alloc, words)?;
+    Ok(run_on_bytes(alloc, &words, input))
+}
+
+/// What a run did, in figures.
+#[derive(Clone, Copy)]
+pub struct Did {
+    pub status: u8,
+    /// The calls of the reader, of the source over it and of the writer.
+    pub reads: u32,
+    pub fetches: u32,
+    pub writes: u32,
+    pub flushes: u32,
+    pub source_failed: bool,
+    pub source_ended: bool,
+    pub sink_failed: bool,
+}
+
+/// A run over such ends: what it did, and what it wrote.
+pub fn observe(alloc: Global, words: &[String], input: &[u8], ends: Ends) -> (Did, Vec<u8>) {
+    let mut source = ReadEnd::new(Chunks {
+        rest: input,
+        ends,
+        calls: 0,
+    });
+    let mut sink = WriteEnd::new(Slow {
+        taken: Vec::new(alloc),
+        ends,
+        calls: 0,
+        flushes: 0,
+    });
+    let status = run(alloc, words, &mut source, &mut sink);
+    let fetches = source.calls();
+    let (source_failed, source_ended) = (source.failed(), source.ended());
+    let sink_failed = sink.failed();
+    let reads = source.into_inner().calls;
+    let writer = sink.into_inner();
+    let did = Did {
+        status,
+        reads,
+        fetches,
+        writes: writer.calls,
+        flushes: writer.flushes,
+        source_failed,
+        source_ended,
+        sink_failed,
+    };
+    (did, writer.taken)
 }

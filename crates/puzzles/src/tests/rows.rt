@@ -1,10 +1,9 @@
 //! Runs as lines of a table: the words, then ` < ` and the input where it is read, then ` > `, the
-//! status and what is written. A `|` is a line end, and `''` is an empty word. `{N}c` is `c` N
-//! times, and `(N:text)` is the text N times, which may have a `{M}c`.
+//! status and what is written. A `|` is a line end, and `''` is an empty word. `(N:text)` is the
+//! text N times, which may have others in it.
 use crate::run::run_on_bytes;
-use crate::tests::fakes::{Chunks, Ends, Slow};
-use crate::tests::seen::{Seen, observe};
-use std::alloc::{AllocError, Global};
+use crate::tests::fakes::{Did, Ends, observe};
+use std::alloc::Global;
 use std::test::Fail;
 
 /// A run, with what it is to write.
@@ -28,57 +27,33 @@ impl Drop for Row {
     }
 }
 
-/// Adds a character of a table to a text.
-fn push_char(text: &mut String, ch: char) -> Result<(), AllocError> {
-    text.push(if ch == '|' { '\n' } else { ch })
-}
-
-/// Adds the characters of a table to a text.
-fn push_chars(text: &mut String, plain: &str) -> Result<(), AllocError> {
-    for ch in plain.chars() {
-        push_char(text, ch)?;
-    }
-    Ok(())
-}
-
-/// Adds what follows a `{`: a number, and a character that stands so many times, and others.
-fn push_again(text: &mut String, part: &str) -> Result<(), Fail> {
-    let (count, after) = part.split_once('}').ok_or("a count")?;
-    let mut after = after.chars();
-    let again = after.next().ok_or("what stands again")?;
-    for _ in 0..count.parse::<usize>()? {
-        push_char(text, again)?;
-    }
-    Ok(push_chars(text, after.as_str())?)
-}
-
-/// Adds a text of a table in which single characters stand again.
-fn push_plain(text: &mut String, plain: &str) -> Result<(), Fail> {
-    let mut parts = plain.split('{');
-    push_chars(text, parts.next().unwrap_or(""))?;
-    for part in parts {
-        push_again(text, part)?;
-    }
-    Ok(())
-}
-
-/// Adds what follows a `(`: a number, and a text that stands so many times, and others.
-fn push_group(text: &mut String, part: &str) -> Result<(), Fail> {
-    let (group, after) = part.split_once(')').ok_or("a group's end")?;
+/// A text with its last group unfolded, if it has one.
+fn unfolded_once(alloc: Global, text: &str) -> Result<Option<String>, Fail> {
+    let Some((before, rest)) = text.rsplit_once('(') else {
+        return Ok(None);
+    };
+    let (group, after) = rest.split_once(')').ok_or("a group's end")?;
     let (count, again) = group.split_once(':').ok_or("a group's count")?;
+    let mut unfolded = String::from_str(alloc, before)?;
     for _ in 0..count.parse::<usize>()? {
-        push_plain(text, again)?;
+        unfolded.push_str(again)?;
     }
-    push_plain(text, after)
+    unfolded.push_str(after)?;
+    Ok(Some(unfolded))
 }
 
 /// The text that a piece of a table stands for.
 fn unfolded(alloc: Global, piece: &str) -> Result<String, Fail> {
+    let mut folded = String::from_str(alloc, piece)?;
+    for _ in 0..piece.len() {
+        match unfolded_once(alloc, &folded)? {
+            Some(text) => folded = text,
+            None => break,
+        }
+    }
     let mut text = String::new(alloc);
-    let mut parts = piece.split('(');
-    push_plain(&mut text, parts.next().unwrap_or(""))?;
-    for part in parts {
-        push_group(&mut text, part)?;
+    for ch in folded.chars() {
+        text.push(if ch == '|' { '\n' } else { ch })?;
     }
     Ok(text)
 }
@@ -115,10 +90,9 @@ impl Row {
         })
     }
 
-    /// The run over such ends.
-    pub fn run(&self, alloc: Global, ends: Ends) -> Seen {
-        let reader = Chunks::new(self.input.as_bytes(), ends.reads, ends.read_fails_at);
-        observe(alloc, &self.words, reader, Slow::new(alloc, ends))
+    /// The run over such ends: what it did, and what it wrote.
+    pub fn run(&self, alloc: Global, ends: Ends) -> (Did, Vec<u8>) {
+        observe(alloc, &self.words, self.input.as_bytes(), ends)
     }
 
     /// Whether the run wrote its text, and has its status.
@@ -129,11 +103,10 @@ impl Row {
     /// Whether the run over such ends writes its text, sends it once and has its status. It reads
     /// its input or leaves it unread.
     fn is_told_over(&self, alloc: Global, ends: Ends) -> bool {
-        let seen = self.run(alloc, ends);
-        let did = seen.did;
+        let (did, taken) = self.run(alloc, ends);
         let is_sent = did.flushes == 1 && !did.sink_failed;
         let is_asked = (did.fetches > 0) == self.is_read && did.reads == did.fetches;
-        is_sent && is_asked && self.is_as_told(seen.taken.as_slice(), did.status)
+        is_sent && is_asked && self.is_as_told(&taken, did.status)
     }
 
     /// Whether the run does so whatever the pieces of input and text.
@@ -144,6 +117,6 @@ impl Row {
             }
         }
         let (taken, status) = run_on_bytes(alloc, &self.words, self.input.as_bytes());
-        self.is_as_told(taken.as_slice(), status)
+        self.is_as_told(&taken, status)
     }
 }

@@ -20,30 +20,21 @@ solve pattern 2x2:1/1/1/1 ; solve pattern 2x2:1/1/1/1 --budget 2 ; \
 solve pattern 3x2:1/2/1/2/2 > 3 several|.##|##.||##.|.##|
 solve pattern 2x3:3/1.1/2/1/2 > 0 one|##|#.|##|
 solve pattern 3x1:1/1/1/2.1 > 2 refused: line 3 too full|
-solve pattern 2x1:1/1/1.1/ > 2 refused: line 2 too full|
-solve pattern 2x2:1/1/1 ; solve solo 2x2:o ; solve solo 2x2: ; \
-    solve solo 2x2x: --budget 0 > 2 refused: too few|
-solve pattern 2x2:1/1/1/1/ ; solve solo 2x2:q ; solve lightup 2x2:2d --budget 0 ; \
-    solve tents 4x6:z,0,0,0,0,0,0,0,0,0,0 --budget 0 > 2 refused: too many|
-solve pattern 2x2:1./1/1/1 > 2 refused: bad byte at 5|
-solve pattern 1x1:0/ ; solve solo 2x2:5o > 2 refused: number range at 4|
+solve solo 2x2x: --budget 0 > 2 refused: too few|
+solve tents 4x6:z,0,0,0,0,0,0,0,0,0,0 --budget 0 > 2 refused: too many|
 solve pattern 2x2:1/1/1/1,# > 2 refused: bad byte at 11|
-solve pattern 3x3#12 ; solve solo 3x3#12 > 2 refused: seed id|
-solve pattern 2x2 ; solve pattern '' ; solve solo 2x2 > 2 refused: no colon|
-solve pattern 02x2:p ; solve solo 02x2:p ; solve solo 2x:p ; solve solo 9x:p --budget 0 ; \
-    solve solo 2xx2:p --budget 0 > 2 refused: bad size|
-solve pattern 2x2k:p ; solve solo 2x2k:p ; solve solo 9j:p ; solve solo 2x2xx:p --budget 0 ; \
-    solve solo 2x2xj:p --budget 0 ; solve solo 2x2kx:p --budget 0 ; \
-    solve pattern 2x2x:/// > 2 refused: variant|
-solve pattern 121x1:p ; solve pattern 121x1:{121}/ ; solve solo 1x4:p ; solve solo 6x6:p ; solve lightup 1x2:b --budget 0 ; \
-    solve solo 6x6x:p --budget 0 > 2 refused: size range|
+solve pattern 1x1:0/ ; solve solo 2x2:5o > 2 refused: number range at 4|
+solve pattern 3x3#12 > 2 refused: seed id|
+solve pattern '' ; solve solo 2x2 > 2 refused: no colon|
+solve solo 02x2:p > 2 refused: bad size|
+solve solo 2x2k:p ; solve pattern 2x2x:/// > 2 refused: variant|
+solve solo 6x6x:p --budget 0 > 2 refused: size range|
 solve solo 2x2:1_2_3_4_3_4_1_2_2_1_4_3_4_3_2_1 ; solve solo 2x2:1b4i3_2a ; \
     solve solo 2x2:1_2_3_4_3_4_1_2_2_1_4_3_4_3_2_1 --budget 0 \
     > 0 one|1 2 3 4|3 4 1 2|2 1 4 3|4 3 2 1|
 solve solo 2x2:p ; solve solo 2x2:__p_ ; solve solo 2x2:hh ; solve solo 2:p ; \
     solve solo 2x2:p --budget=8 \
     > 3 several|1 2 3 4|3 4 1 2|2 1 4 3|4 3 2 1||1 2 3 4|3 4 1 2|2 3 4 1|4 1 2 3|
-solve solo 2x2:0o ; solve lightup 2x2:5c --budget 0 > 2 refused: bad byte at 4|
 solve lightup 2x2:2c --budget 0 ; solve lightup 2x2:2c --budget 18446744073709551615 > 0 one|2O|O.|
 solve lightup 2x2:Bc --budget 0 ; solve lightup 2x2:1c --budget 1 ; \
     solve lightup 2x2:1c --budget 0 ; solve lightup 3x3:aBBa1aBb --budget 0 ; \
@@ -71,46 +62,28 @@ solve solo 2x2x:1_2_3_4l --budget 1 ; \
 solve solo 2x2x:1_2_3_4_3k --budget 0 > 0 one|1 2 3 4|3 4 1 2|4 3 2 1|2 1 4 3|
 ";
 
-/// The beginnings of two IDs.
-const CUT: &str = "\
-solve pattern 5 ; solve pattern 5x ; solve pattern 5x1 ; solve solo '' ; solve solo 2 ; \
-    solve solo 2x ; solve solo 2x2x > 2 refused: no colon|
-solve pattern 5x1: ; solve pattern 5x1:1 ; solve pattern 5x1:1/ ; solve pattern 5x1:1/1 ; \
-    solve pattern 5x1:1/1/ ; solve pattern 5x1:1/1// ; solve pattern 5x1:1/1//1 ; \
-    solve pattern 5x1:1/1//1/ ; solve pattern 5x1:1/1//1/1 ; solve solo 2x2x: ; \
-    solve solo 2x2x:1 ; solve solo 2x2x:1_ ; solve solo 2x2x:1_2 ; solve solo 2x2x:1_2_ ; \
-    solve solo 2x2x:1_2_3 ; solve solo 2x2x:1_2_3_ ; solve solo 2x2x:1_2_3_4 > 2 refused: too few|
-solve pattern 5x1:1/1//1/1/ ; solve pattern 5x1:1/1//1/1/2 > 1 none|
-solve pattern 5x1:1/1//1/1/2. > 2 refused: bad byte at 14|
-solve solo 2x2x:1_2_3_4l \
-    > 3 several|1 2 3 4|3 4 1 2|4 3 2 1|2 1 4 3||1 2 3 4|4 3 2 1|2 1 4 3|3 4 1 2|
-";
-
 /// Long IDs: the most is 65,536 bytes.
 const LONG: &str = "\
-solve solo 2x2:{10000}z > 2 refused: too many|
-solve solo 2x2:{16000}9 > 2 refused: number range at 4|
-solve solo {16000}9x2:p > 2 refused: size range|
-solve solo 2x2:{16379}_p ; solve solo 2x2:{16380}_p ; solve solo 2x2:{65531}_p \
+solve solo 2x2:(65531:_)p \
     > 3 several|1 2 3 4|3 4 1 2|2 1 4 3|4 3 2 1||1 2 3 4|3 4 1 2|2 3 4 1|4 1 2 3|
-solve solo 2x2:{65532}_p > 2 refused: too long|
-solve pattern 1x1:{16000}01/1 > 0 one|#|
-solve pattern 1x1:{16000}9/1 > 2 refused: line 0 too full|
+solve solo 2x2:(65532:_)p > 2 refused: too long|
 ";
 
 /// Puzzles of the longest side.
 const LARGE: &str = "\
-solve pattern 120x1:{120}/ > 0 one|{120}.|
-solve lightup 120x2:{240}B > 0 one|{120}#|{120}#|
-solve tents 120x2:zzzzzzzzzo(122:,0) > 0 one|{120}.|{120}.|
-generate pattern 120x120 --seed 1 --black 100 > 0 120x120:(239:120/)120|(120:{120}#|)
+solve pattern 120x1:(120:/) > 0 one|(120:.)|
+solve pattern 70x2:1/1(68:/)/1/1 > 3 several|.#(68:.)|#.(68:.)||#.(68:.)|.#(68:.)|
+grade lightup 120x2:(240:B) --budget 0 ; grade tents 120x2:zzzzzzzzzo(122:,0) > 0 local|
+solve lightup 120x2:(240:B) > 0 one|(120:#)|(120:#)|
+solve tents 120x2:zzzzzzzzzo(122:,0) > 0 one|(120:.)|(120:.)|
+generate pattern 120x120 --seed 1 --black 100 > 0 120x120:(239:120/)120|(120:(120:#)|)
 generate pattern 121x120 --seed 1 --black 100 > 2 refused: size range|
 ";
 
 /// Lines of the input, which are IDs.
 const LINES: &str = "\
 solve pattern <  > 0
-solve pattern < | ; solve pattern < {65536}_ > 2 refused: no colon|
+solve pattern < | ; solve pattern < (65536:_) > 2 refused: no colon|
 solve pattern < 1x1:/|1x1:/\r\r| > 2 one|.|refused: bad byte at 5|
 solve pattern < 1x1:/\r > 2 refused: bad byte at 5|
 solve pattern < 2x2:1/1/1/1|2x2:2/2/2/2|2x1:1/1/1|2x2:1/1/1/1| \
@@ -121,11 +94,11 @@ solve tents < 2x2:_c,0,1,1,0|2x2:_c,0,1,1,0 > 0 one|T^|..|one|T^|..|
 solve pattern < 1x1:/||2x1:1/1/1 ; solve pattern < 1x1:/||2x1:1/1/1| ; \
     solve pattern < 1x1:/\r|\r|2x1:1/1/1 ; \
     solve pattern < 1x1:/\r|\r|2x1:1/1/1\r| > 2 one|.|refused: no colon|none|
-solve pattern < {16385}_|1x1:/| ; solve pattern < {65536}_\r|1x1:/| ; \
-    solve pattern < {65536}_|1x1:/| > 2 refused: no colon|one|.|
-solve pattern < {65537}_|1x1:/| ; solve pattern < {65536}_\r\r|1x1:/| ; \
-    solve pattern < {69536}_\r|1x1:/ > 2 refused: too long|one|.|
-solve pattern < {65536}_\r > 2 refused: too long|
+solve pattern < (16385:_)|1x1:/| ; solve pattern < (65536:_)\r|1x1:/| ; \
+    solve pattern < (65536:_)|1x1:/| > 2 refused: no colon|one|.|
+solve pattern < (65537:_)|1x1:/| ; solve pattern < (65536:_)\r\r|1x1:/| ; \
+    solve pattern < (69536:_)\r|1x1:/ > 2 refused: too long|one|.|
+solve pattern < (65536:_)\r > 2 refused: too long|
 ";
 
 /// Grids that are solutions or none, and inputs that are no grids.
@@ -139,13 +112,18 @@ check solo 2x3:zj < 1 2 3 4 5 6|4 5 6 1 2 3|2 3 1 5 6 4|5 6 4 2 3 1|3 1 2 6 4 5|
     check solo 2x3:zj < 2 5 6 4 1 3|4 1 3 6 2 5|5 2 4 3 6 1|6 3 1 5 4 2|1 6 5 2 3 4|3 4 2 1 5 6| ; \
     check pattern 5x1:1/1//1/1/2.2 < ##.##| ; check pattern 5x1:1/1//1/1/2.2 < ##.## ; \
     check pattern 2x2:1/1/1/1 < .#|#.| ; check pattern 2x2:1/1/1/1 < #.\r|.#\r| ; \
+    check solo 2x2:p < 1 2 3 4|3 4 1 2|2 1 4 3|4 3 2 1 ; \
+    check solo 2x2:1b4i3_2a < 1 2 3 4|3 4 1 2|2 1 4 3|4 3 2 1 ; \
+    check lightup 2x2:BBBB < ##|## ; check lightup 3x2:aBaBaB < O#O|#O#| ; \
     check tents 2x2:_c,0,1,1,0 < T^|..| > 0 correct|
 check solo 2x2:2o < 1 2 3 4|3 4 1 2|2 1 4 3|4 3 2 1| > 1 wrong: given 0,0|
 check solo 2x2:i3f < 1 2 3 4|3 4 1 2|2 1 4 3|4 3 2 1| > 1 wrong: given 1,2|
 check solo 2x2:p < 1 2 3 4|3 4 1 2|2 1 4 3|1 2 4 3| ; check pattern 2x1:1//1 < .# ; \
     check tents 2x2:_c,0,1,1,0 < T.|^. > 1 wrong: column 0|
 check solo 2x2:p < 1 2 3 4|3 4 1 2|2 2 4 3|1 2 4 3| > 1 wrong: row 2|
-check pattern 2x1:1/1/1 < ## > 1 wrong: row 0|
+check pattern 2x2:1/2/2/1 < #.|.. > 1 wrong: column 1|
+check pattern 2x1:1/1/1 < ## ; check pattern 2x2:1/2/1/2 < ##|.# ; \
+    check tents 2x2:_c,0,1,0,1 < T^|.. > 1 wrong: row 0|
 check lightup 2x2:2c < 2O|.. > 1 wrong: number 0,0|
 check lightup 2x2:2c < 2O|OO > 1 wrong: seen 1,0|
 check lightup 2x2:Bc < #.|.. > 1 wrong: dark 1,0|
@@ -178,7 +156,7 @@ check tents 2x2#1 > 2 refused: seed id|
 ";
 
 /// Grades without a trace.
-pub const GRADES: &str = "\
+const GRADES: &str = "\
 grade pattern 5x1:1/1//1/1/2.2 --budget 0 > 0 lines|
 grade solo 2x2:1_2_3_4_3_4_1_2_2_1_4_3_4_3_2_1 --budget 0 > 0 singles|
 grade solo 2x3:5c3c4d1a3g6a6a4c5_2c --budget 0 > 0 houses|
@@ -205,8 +183,11 @@ generate pattern 2x2 --seed 1 --black 100 > 0 2x2:2/2/2/2|##|##|
 generate pattern 2x2 --seed 1 --black 0 > 0 2x2:///|..|..|
 generate lightup 2x2 --seed 1 --black 100 > 0 2x2:BBBB|##|##|
 generate lightup 2x2 --seed 1 --black 0 ; generate solo 2x2 --seed 1 --tries 0 ; \
+    generate lightup 2x2 --seed 1 --black 100 --tries 0 ; \
+    generate pattern 2x2 --seed 1 --tries 0 ; generate tents 6x6 --seed 1 --tries 0 ; \
     generate solo 2x2x --seed 1 --budget 0 > 4 exhausted|
-generate solo 6x6x --seed 1 ; generate tents 3x3 --seed 1 ; \
+generate solo 6x6x --seed 1 ; generate tents 3x3 --seed 1 --tries 0 ; \
+    generate solo 1x4 --seed 1 --tries 0 ; generate lightup 1x4 --seed 1 --tries 0 ; \
     generate solo 6x6 --seed 1 > 2 refused: size range|
 generate solo 2x2x: --seed 1 ; generate lightup 7x7d --seed 1 > 2 refused: variant|
 generate tents 4x4 --seed 1 --black 5 > 2 refused: words|
@@ -246,7 +227,7 @@ fn untold_in(alloc: Global, table: &str) -> Result<Option<&str>, Fail> {
 
 #[test]
 fn runs_tell_what_is_allowed(rt: HostRuntime) -> Result<(), Fail> {
-    for table in [SOLVES, CUT, LINES, CHECKS, UNREAD, GRADES, MAKINGS, REFUSED] {
+    for table in [SOLVES, LINES, CHECKS, UNREAD, GRADES, MAKINGS, REFUSED] {
         assert_eq!(rt; untold_in(rt.alloc(), table)?, None);
     }
     Ok(())

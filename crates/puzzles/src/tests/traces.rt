@@ -2,7 +2,7 @@
 ghost use Rattle.std.specs.Prelude.{IfOk};
 ghost use Rattle.engine_core.specs.RuleSystem.{IsBoardOf};
 
-use crate::tests::seen::outcome;
+use crate::tests::fakes::outcome;
 use engine_core::{Rules, Searchable, Store};
 use fields_core::{LightRules, TentRules};
 use gameid_core::{SoloPuzzle, read_lights, read_pattern, read_solo, read_tents};
@@ -11,9 +11,6 @@ use pattern_core::PatternLines;
 use solo_core::{SoloCrossings, SoloHouses, SoloSingles};
 use std::alloc::{AllocError, Global};
 use std::test::Fail;
-
-/// Solo 2x2 with all of a solution given.
-const LATIN: &str = "2x2:1_2_3_4_3_4_1_2_2_1_4_3_4_3_2_1";
 
 /// Single values and single places leave cells open here, and whole houses don't.
 const PAIRED: &str = "2x3:5c3c4d1a3g6a6a4c5_2c";
@@ -82,23 +79,21 @@ fn is_closed_by<R: Searchable>(
     Ok(are_same(rules, &board, store.board()))
 }
 
-/// Whether the visits close the board of a puzzle by these rules, and no visits leave it open, but
-/// where it is full from the start.
-fn closes<R: Searchable>(
-    alloc: Global,
-    rules: &R,
-    visits: &[usize],
-    is_full: bool,
-) -> Result<bool, AllocError> {
+/// Whether the visits close the board of a puzzle by these rules, and no visits leave it open.
+fn closes<R: Searchable>(alloc: Global, rules: &R, visits: &[usize]) -> Result<bool, AllocError> {
     let houses = rules.houses();
     let are_houses = visits.iter().all(|visit| *visit < houses);
     let is_closed = is_closed_by(alloc, rules, visits)?;
-    Ok(are_houses && is_closed && is_closed_by(alloc, rules, &[])? == is_full)
+    Ok(are_houses && is_closed && !is_closed_by(alloc, rules, &[])?)
 }
 
 /// What a grade with a trace tells after this line.
 fn traced(alloc: Global, [game, id, budget, grade]: [&str; 4]) -> Result<String, Fail> {
-    let (taken, _) = outcome(alloc, &["grade", game, id, "--budget", budget, "--trace"])?;
+    let (taken, _) = outcome(
+        alloc,
+        &["grade", game, id, "--budget", budget, "--trace"],
+        b"unread",
+    )?;
     let text = str::from_utf8(taken.as_slice())?;
     let rest = text.strip_prefix(grade).ok_or("the grade")?;
     Ok(String::from_str(alloc, rest.strip_prefix('\n').ok_or("a line end")?)?)
@@ -125,7 +120,7 @@ fn pattern_closes(alloc: Global, id: &str, lines: &str) -> Result<bool, Fail> {
     let columns = usize::from(puzzle.size().w());
     let rules = PatternLines::new(alloc, &puzzle)?;
     let visits = visits_in(alloc, lines, &["column", "row"], columns, rules.houses())?;
-    Ok(closes(alloc, &rules, &visits, false)?)
+    Ok(closes(alloc, &rules, &visits)?)
 }
 
 #[test]
@@ -144,8 +139,7 @@ fn traces_of_pattern_close_their_boards(rt: HostRuntime) -> Result<(), Fail> {
 }
 
 /// IDs of Solo with their grades, how many houses of a kind there are, and how many houses.
-const SOLOS: [(&str, &str, usize, usize); 6] = [
-    (LATIN, "singles", 4, 12),
+const SOLOS: [(&str, &str, usize, usize); 5] = [
     ("2x2x:1_2_3_4_3k", "singles", 4, 14),
     (PAIRED, "houses", 6, 18),
     ("2x2:1o", "gave up", 4, 12),
@@ -159,12 +153,11 @@ fn solo_closes(
     puzzle: &SoloPuzzle,
     grade: &str,
     visits: &[usize],
-    is_full: bool,
 ) -> Result<bool, AllocError> {
     match grade {
-        "singles" => closes(alloc, &SoloSingles::new(alloc, puzzle)?, visits, is_full),
-        "houses" => closes(alloc, &SoloHouses::new(alloc, puzzle)?, visits, is_full),
-        _ => closes(alloc, &SoloCrossings::new(alloc, puzzle)?, visits, is_full),
+        "singles" => closes(alloc, &SoloSingles::new(alloc, puzzle)?, visits),
+        "houses" => closes(alloc, &SoloHouses::new(alloc, puzzle)?, visits),
+        _ => closes(alloc, &SoloCrossings::new(alloc, puzzle)?, visits),
     }
 }
 
@@ -184,7 +177,7 @@ fn traces_of_solo_close_their_boards(rt: HostRuntime) -> Result<(), Fail> {
         let visits = solo_visits(rt.alloc(), solo)?;
         let (id, grade, _, _) = solo;
         let puzzle = read_solo(rt.alloc(), id.as_bytes())?;
-        let is_closed = solo_closes(rt.alloc(), &puzzle, grade, &visits, id == LATIN)?;
+        let is_closed = solo_closes(rt.alloc(), &puzzle, grade, &visits)?;
         assert!(rt; is_closed, "{id}");
     }
     Ok(())
@@ -210,7 +203,7 @@ fn sweeps_close<R: Searchable>(
             visits.push(house)?;
         }
     }
-    closes(alloc, rules, &visits, false)
+    closes(alloc, rules, &visits)
 }
 
 /// The rules of a puzzle of Light Up.
