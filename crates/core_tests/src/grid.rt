@@ -1,9 +1,9 @@
-//! Sizes and pairings.
+//! Sizes, grids, boards and pairings.
 
 ghost use Rattle.std.specs.Prelude.{◌==◌, get_or};
 ghost use Rattle.std.specs.Int.{bit_at};
 
-use grid_core::{Edges, Paired, Pairing, Size};
+use grid_core::{Board, Edges, Grid, Paired, Pairing, Size};
 use std::alloc::{AllocError, Global};
 use std::test::Fail;
 
@@ -77,5 +77,28 @@ fn lefts_are_paired_or_short(rt: HostRuntime) -> Result<(), Fail> {
     let (mates, short) = paired(rt.alloc(), [0b001, 0b001, 0b110])?;
     assert!(rt; mates.is_none());
     assert_eq!(rt; short.as_slice(), [0, 1].as_slice());
+    Ok(())
+}
+
+/// The numbers of a grid of three cells at first, and how many there are.
+fn new_grid(alloc: Global) -> Result<([u8; 3], usize), AllocError> {
+    let grid = Grid::new(alloc, 3)?;
+    Ok(([grid.get(0), grid.get(1), grid.get(2)], grid.len()))
+}
+
+/// Of a board of one cell with two values, from which 1 is struck twice: how many values there are at first, whether each
+/// strike strikes, and whether it is full after the first.
+fn struck_twice(alloc: Global) -> Result<(usize, [bool; 2], bool), AllocError> {
+    let mut board = Board::new(alloc, 1, 2)?;
+    let count = board.count(0);
+    let strikes = board.strike(0, 1);
+    let full = board.is_full();
+    Ok((count, [strikes, board.strike(0, 1)], full))
+}
+
+#[test]
+fn grids_begin_with_zeros_and_boards_with_all(rt: HostRuntime) -> Result<(), Fail> {
+    assert_eq!(rt; new_grid(rt.alloc())?, ([0, 0, 0], 3));
+    assert_eq!(rt; struck_twice(rt.alloc())?, (2, [true, false], true));
     Ok(())
 }

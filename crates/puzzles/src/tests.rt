@@ -2,6 +2,7 @@
 
 mod cuts;
 mod fakes;
+mod grades;
 mod makings;
 mod rows;
 mod runs;

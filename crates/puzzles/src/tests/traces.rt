@@ -12,6 +12,9 @@ use solo_core::{SoloCrossings, SoloHouses, SoloSingles};
 use std::alloc::{AllocError, Global};
 use std::test::Fail;
 
+/// Solo 2x2 with all of a solution given.
+const GIVEN: &str = "2x2:1_2_3_4_3_4_1_2_2_1_4_3_4_3_2_1";
+
 /// Single values and single places leave cells open here, and whole houses don't.
 const PAIRED: &str = "2x3:5c3c4d1a3g6a6a4c5_2c";
 
@@ -79,12 +82,17 @@ fn is_closed_by<R: Searchable>(
     Ok(are_same(rules, &board, store.board()))
 }
 
-/// Whether the visits close the board of a puzzle by these rules, and no visits leave it open.
-fn closes<R: Searchable>(alloc: Global, rules: &R, visits: &[usize]) -> Result<bool, AllocError> {
+/// Whether the visits close the board of a puzzle by these rules, and whether no visits do, as is told.
+fn closes<R: Searchable>(
+    alloc: Global,
+    rules: &R,
+    visits: &[usize],
+    by_none: bool,
+) -> Result<bool, AllocError> {
     let houses = rules.houses();
     let are_houses = visits.iter().all(|visit| *visit < houses);
     let is_closed = is_closed_by(alloc, rules, visits)?;
-    Ok(are_houses && is_closed && !is_closed_by(alloc, rules, &[])?)
+    Ok(are_houses && is_closed && is_closed_by(alloc, rules, &[])? == by_none)
 }
 
 /// What a grade with a trace tells after this line.
@@ -120,7 +128,7 @@ fn pattern_closes(alloc: Global, id: &str, lines: &str) -> Result<bool, Fail> {
     let columns = usize::from(puzzle.size().w());
     let rules = PatternLines::new(alloc, &puzzle)?;
     let visits = visits_in(alloc, lines, &["column", "row"], columns, rules.houses())?;
-    Ok(closes(alloc, &rules, &visits)?)
+    Ok(closes(alloc, &rules, &visits, false)?)
 }
 
 #[test]
@@ -139,7 +147,8 @@ fn traces_of_pattern_close_their_boards(rt: HostRuntime) -> Result<(), Fail> {
 }
 
 /// IDs of Solo with their grades, how many houses of a kind there are, and how many houses.
-const SOLOS: [(&str, &str, usize, usize); 5] = [
+const SOLOS: [(&str, &str, usize, usize); 6] = [
+    (GIVEN, "singles", 4, 12),
     ("2x2x:1_2_3_4_3k", "singles", 4, 14),
     (PAIRED, "houses", 6, 18),
     ("2x2:1o", "gave up", 4, 12),
@@ -153,11 +162,12 @@ fn solo_closes(
     puzzle: &SoloPuzzle,
     grade: &str,
     visits: &[usize],
+    by_none: bool,
 ) -> Result<bool, AllocError> {
     match grade {
-        "singles" => closes(alloc, &SoloSingles::new(alloc, puzzle)?, visits),
-        "houses" => closes(alloc, &SoloHouses::new(alloc, puzzle)?, visits),
-        _ => closes(alloc, &SoloCrossings::new(alloc, puzzle)?, visits),
+        "singles" => closes(alloc, &SoloSingles::new(alloc, puzzle)?, visits, by_none),
+        "houses" => closes(alloc, &SoloHouses::new(alloc, puzzle)?, visits, by_none),
+        _ => closes(alloc, &SoloCrossings::new(alloc, puzzle)?, visits, by_none),
     }
 }
 
@@ -177,7 +187,7 @@ fn traces_of_solo_close_their_boards(rt: HostRuntime) -> Result<(), Fail> {
         let visits = solo_visits(rt.alloc(), solo)?;
         let (id, grade, _, _) = solo;
         let puzzle = read_solo(rt.alloc(), id.as_bytes())?;
-        let is_closed = solo_closes(rt.alloc(), &puzzle, grade, &visits)?;
+        let is_closed = solo_closes(rt.alloc(), &puzzle, grade, &visits, id == GIVEN)?;
         assert!(rt; is_closed, "{id}");
     }
     Ok(())
@@ -203,7 +213,7 @@ fn sweeps_close<R: Searchable>(
             visits.push(house)?;
         }
     }
-    closes(alloc, rules, &visits)
+    closes(alloc, rules, &visits, false)
 }
 
 /// The rules of a puzzle of Light Up.
