@@ -1,7 +1,7 @@
 -- Words and lemmas of std and of the crates below, and words of this crate, as its proofs use them.
 pub use Rattle.std.proofs.Common.{All, Bool, List, MatchOption, None, Option, Some, [], add-one, add-zero, ap, append-nil, append_assoc, arith, bit_and}
 pub use Rattle.std.proofs.Common.{bit_or, cond, eqb, false, get_or, if◌then◌else◌, inl, inr, is_some, leb, length, length-append, length-take, ltb, map}
-pub use Rattle.std.proofs.Common.{mul-le-mul_right, nat_le, nat_lt, not, refl, replicate, rules, slice_index, slice_set, subst, suc, sym, take, true}
+pub use Rattle.std.proofs.Common.{mul-le-mul_right, nat_le, nat_lt, not, refl, replicate, rules, slice_index, slice_set, subst, suc, sym, take, tests, true}
 pub use Rattle.std.proofs.Common.{true≢false, w32, zero, ℕ, ◌%◌, ◌&&◌, ◌*◌, ◌++◌, ◌+◌, ◌-◌, ◌/◌, ◌<◌, ◌^◌, ◌||◌, ◌∙◌, ◌∷◌, ◌≡◌, ◌≤◌, ◌⊎◌}
 pub use Rattle.std.proofs.Math.Bool.{and-false, or-false}
 pub use Rattle.std.proofs.Math.ListN.{set}
@@ -18,8 +18,8 @@ pub use Rattle.engine_core.specs.HouseList.{FitsPlaces, Listed}
 pub use Rattle.engine_core.specs.HouseSetsLaws.{by_fillings-met, kept-decided, length-sets_at, sets_at-small, strikes_at-here, strikes_at-some}
 pub use Rattle.engine_core.specs.HouseList.{all_places}
 pub use Rattle.solo_core.specs.BoundLaws.{bound_is, count_plain, count_x, crossings_rules-bound, house_count}
-pub use Rattle.solo_core.specs.Common.{AreDifferent, Block, Candidates, Column, Decision, Diagonal, House, IsDecided, IsGrid, IsHouseOf, IsShownBy}
-pub use Rattle.solo_core.specs.Common.{IsSolo, IsSoloSolution, IsSound, NamedHouse, Row, Set, Solo, all_below-from}
+pub use Rattle.solo_core.specs.Common.{AreDifferent, Block, Candidates, Column, Decision, Diagonal, FoldsTo, House, IsDecided, IsGrid, IsHouseOf, IsShownBy}
+pub use Rattle.solo_core.specs.Common.{IsSolo, IsSoloSolution, IsSound, MatchBool-at_false, MatchBool-at_true, NamedHouse, Row, Set, Solo, all_below-from}
 pub use Rattle.solo_core.specs.Common.{and_cases, and_from, and_parts, and_right, any_below-here, any_below-same, any_below-some, both-bits, cases_Bool}
 pub use Rattle.solo_core.specs.Common.{cases_eq, cases_lt, different-filter, div-add-mod', div-mul-add, either-bits, eq-eqb, eqb-true, false_from_ne_true}
 pub use Rattle.solo_core.specs.Common.{filter, filter-append, filter_of_map_range_with_len_more, fun_ext, get_or-append_right, get_or-map}
@@ -49,4 +49,5 @@ unfoldable pub use Rattle.solo_core.specs.Singles.{strikes_where}
 pub use Rattle.solo_core.specs.SolutionLaws.{differ_in, given_from_test, rule_from_test, test_from_rule}
 pub use Rattle.solo_core.specs.Ways.{ComesAfter, ComesBefore, IsTransitiveClosure, LiesOnRounds, StaysBefore}
 unfoldable pub use Rattle.solo_core.specs.Ways.{IsWay}
+pub use Rattle.solo_core.specs.Work.{strided}
 pub use Rattle.solo_core.specs.declared.fault.SoloFault.TheVariants.{Given}

@@ -1,5 +1,6 @@
 -- How the lists of houses grow.
-use Rattle.std.specs.Prelude.{◌≡◌, ℕ, List, [], ◌∷◌, ◌++◌}
+use Rattle.std.specs.Prelude.{◌≡◌, ℕ, ◌+◌, ◌*◌, List, [], ◌∷◌, ◌++◌, map}
+use Rattle.std.specs.List.{range_with_len}
 use Rattle.engine_core.specs.HouseList.{Listed}
 
 -- these lists of places, closed, and none begun
@@ -14,6 +15,13 @@ HasAdded more old new = new ≡ closed_lists (old.closed ++ more)
 abbrev pub HasBegun : List ℕ → Listed → Listed → Type 0
 HasBegun more old new = new ≡ record { closed = old.closed; begun = old.begun ++ more }
 
--- the list with one more closed list of places, and none begun
+-- the list with one more closed list of places, and none begun; and the list with these places begun
 abbrev pub HasClosed : List ℕ → Listed → Listed → Type 0
 HasClosed places = HasAdded (places ∷ [])
+
+abbrev pub Begins : List ℕ → Listed → Listed → Type 0
+Begins places old new = new ≡ record { closed = old.closed; begun = places }
+
+-- so many places, the first and each a step after the one before
+abbrev pub strided : ℕ → ℕ → ℕ → List ℕ
+strided first step count = map (λ k. first + k * step) (range_with_len 0 count)
