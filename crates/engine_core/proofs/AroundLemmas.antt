@@ -1,7 +1,7 @@
 -- Closings that go around over the houses that wait, and what they came to.
 use Rattle.engine_core.proofs.Common.{BoardAndMarks, Bool, Candidates, Dead, HasStruck, IsAlive, IsClosedBy, IsClosedIn, IsClosing, IsDead, IsLawful, IsQueuedAround, IsRested, IsTaken, IsWithin, IsWoken, List, None, Open, RuleSystem, Some, [], after, arith, but, cases_Bool, cases_lt, common_steps, false, from_bool, has, if◌then◌else◌, inl, inr, is_dead, le-ltb, length, length-append, lt-ltb, ltb, max, not, refl, suc, sym, take, true, true≢false, within_inside, ℕ, ◌&&◌, ◌*◌, ◌++◌, ◌+◌, ◌-◌, ◌<◌, ◌||◌, ◌∙◌, ◌∷◌, ◌≡◌, ◌≤◌, ◌⊎◌}
 use Rattle.engine_core.specs.declared.mode.Closing.{Closing}
-use Rattle.engine_core.specs.declared.search.position.Taken.{Taken}
+use Rattle.engine_core.specs.declared.mode.Taken.{Taken}
 use Rattle.engine_core.proofs.ClosingLemmas.{replay_inside}
 use Rattle.engine_core.proofs.QueueLemmas.{closed_from_rested}
 use Rattle.engine_core.proofs.ListLemmas.{IsRunning, closing-dead, closing-none, closing-open, room, running-first, running-turn}

@@ -8,7 +8,7 @@ use Rattle.engine_core.specs.Keeping.{AreHeadSets, AreSetsOf}
 use Rattle.engine_core.specs.Queue.{IsWoken, but, called_for}
 use Rattle.engine_core.specs.Sets.{AreWoken, words_of, is_waiting}
 use Rattle.engine_core.specs.declared.closing.closer.Effect.{Effect}
-use Rattle.engine_core.specs.declared.search.position.Taken.{Taken}
+use Rattle.engine_core.specs.declared.mode.Taken.{Taken}
 
 -- what the memory was taken for, the board, which houses wait, and the room for the houses that a closing visits
 pub record BoardAndMarks : Type 0 where

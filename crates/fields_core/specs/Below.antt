@@ -11,7 +11,7 @@ pub use Rattle.grid_core.specs.Regions.{beside, column_places, row_places}
 pub use Rattle.grid_core.specs.Words.{has_bit}
 pub use Rattle.grid_core.specs.declared.planes.line.Line.{Line}
 pub use Rattle.grid_core.specs.declared.planes.line.Line.TheVariants.{Row}
-pub use Rattle.grid_core.specs.declared.planes.touched.Touched.{Touched}
+pub use Rattle.grid_core.specs.declared.planes.touched_lines.Touched.{Touched}
 pub use Rattle.gameid_core.specs.FirstFailed.{IsAnswerOfCheck, tests_of}
 pub use Rattle.gameid_core.specs.Puzzles.{IsLight, IsTents, Light, Tents}
 pub use Rattle.gameid_core.specs.declared.light_up.cell.LightCell.{LightCell}

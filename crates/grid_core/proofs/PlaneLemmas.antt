@@ -4,7 +4,7 @@ use Rattle.grid_core.proofs.BoardLemmas.{any_below-none, any_below-some, total-l
 use Rattle.grid_core.specs.declared.planes.line.Line.{Line}
 use Rattle.grid_core.proofs.TakingLemmas.{put_back-noted, put_back-undone, takings-noted, takings-room, takings-undone}
 use Rattle.grid_core.specs.Planes.{AreLinesOf}
-use Rattle.grid_core.specs.declared.planes.touched.Touched.{Touched}
+use Rattle.grid_core.specs.declared.planes.touched_lines.Touched.{Touched}
 
 -- Planes: their words and the board that they are.
 -- ---- words

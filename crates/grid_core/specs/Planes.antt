@@ -8,7 +8,7 @@ use Rattle.grid_core.specs.Words.{has_bit, differ}
 use Rattle.grid_core.specs.declared.planes.line.Line.{Line}
 use Rattle.grid_core.specs.declared.planes.line.Line.TheVariants.{Row, Column}
 use Rattle.grid_core.specs.declared.planes.line.Change.{Change}
-use Rattle.grid_core.specs.declared.planes.touched.Touched.{Touched}
+use Rattle.grid_core.specs.declared.planes.touched_lines.Touched.{Touched}
 
 -- whether a line's word of the value has the place
 unfoldable pub bit_of : List ℕ → ℕ → ℕ → ℕ → Bool

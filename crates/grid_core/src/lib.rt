@@ -20,7 +20,7 @@ pub use lines::{line_count, line_len, line_place, line_value};
 pub use pairing::{Edges, Paired, Pairing};
 pub use planes::Planes;
 pub use planes::line::Line;
-pub use planes::touched::Touched;
+pub use planes::touched_lines::Touched;
 pub use planes::word::Word;
 pub use regions::{beside, block_place, column_place, diagonal_place, row_place, step};
 pub use size::{MAX_SIDE, Size};

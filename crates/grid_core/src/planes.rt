@@ -6,9 +6,9 @@ ghost use Rattle.grid_core.specs.Candidates.{all_of};
 ghost use Rattle.grid_core.specs.Words.{has_bit};
 ghost use Rattle.grid_core.specs.Planes.{bit_of, has, cells_of, back_at, has_without, taking, ArePlanes, IsThere, IsFresh, IsFurther, IsBack, at_line, lines_beside, line_len, number_of};
 
-pub(crate) mod judge;
 pub(crate) mod line;
-pub(crate) mod touched;
+pub(crate) mod touched_lines;
+pub(crate) mod trial;
 pub(crate) mod turn;
 pub(crate) mod word;
 

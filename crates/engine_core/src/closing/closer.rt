@@ -6,10 +6,9 @@ ghost use Rattle.engine_core.specs.Common.{from_bool, has, SameShape, cells_of, 
 
 use crate::closing::marking::{is_house_dead, mark_after};
 use crate::houses::visit::read_head;
-use crate::mode::Closing;
+use crate::mode::{Closing, Taken};
 use crate::needs::{Needs, needs_for};
 use crate::rules::{Rules, by_queue};
-use crate::search::position::Taken;
 use crate::trail::cells::write_grid;
 use crate::waits::{dequeue, next_around};
 use grid_core::{Board, Fixed, Grid};

@@ -4,10 +4,11 @@
 ghost use Rattle.std.specs.Prelude.{◌≡◌, ◌≤◌, length};
 ghost use Rattle.engine_core.specs.PlanePosition.{AreUnderWay, standing_of};
 
+use crate::mode::Taken;
 use crate::needs::{Needs, needs_for};
 use crate::planes::lengths::{PlanesOf, at_planes, choose, planes_for};
 use crate::planes::rules::{PlaneNotes, PlaneRules};
-use crate::search::position::{Position, Taken};
+use crate::search::position::Position;
 use grid_core::Grid;
 use std::alloc::{AllocError, Global};
 use std::marker::Model;

@@ -6,9 +6,9 @@ ghost use Rattle.grid_core.specs.Planes.{IsFurther, has};
 ghost use Rattle.engine_core.specs.Common.{FitsIn, IsAlive, IsClosedBut, IsClosedGrid, IsClosedIn, IsTaken, Needs, StillServes, needs_in, needs_of};
 ghost use Rattle.engine_core.specs.PlaneNotes.{AreKept, HasBoard, IsSuited};
 
+use crate::mode::Taken;
 use crate::needs::Needs;
 use crate::rules::Rules;
-use crate::search::position::Taken;
 use grid_core::{Grid, Planes, Size, Word};
 use std::alloc::{AllocError, Global};
 

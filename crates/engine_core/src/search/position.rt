@@ -3,17 +3,10 @@
 ghost use Rattle.std.specs.Prelude.{◌≡◌, ℕ, ◌*◌, ◌<◌, ◌≤◌, IfOk, true, None, length};
 ghost use Rattle.engine_core.specs.Common.{IsFull, IsInside, IsTakenTo, count_below, most_changes, only, own_grid, pick, IsClosed, IsNext, Needs, needs_of, FitsIn, IsClosedBut, IsClosedIn, Standing, IsOnward, IsReturned, Room};
 
-use crate::mode::Closing;
+use crate::mode::Taken;
 use crate::rules::Rules;
 use grid_core::Grid;
 use std::alloc::{AllocError, Global};
-
-/// What a closing came to, and how many visits or sweeps it made.
-#[derive(Clone, Copy)]
-pub struct Taken {
-    pub closing: Closing,
-    pub turns: usize,
-}
 
 /// A board under a walk. Values are struck from it, and a trail notes them: to go back to a length that it had is to go back
 /// to the board of then.

@@ -4,10 +4,10 @@
 ghost use Rattle.std.specs.Prelude.{◌<◌, ◌≡◌, ◌≤◌, ◌+◌, IfOk, IfSome, false, length};
 ghost use Rattle.engine_core.specs.Common.{cells_of, max_cells, max_values, IsTrailUnderWay, standing_of, words_of, has, IsAlive, IsClosedIn, HasSetRoom, IsFiltered, IsTaken, needs_of, IsBoardOf, StillServes, IsAlong, AreHousesRested, GoesOn, IsStep, board_in, AreRestedBut, AreWokenSince};
 
-use crate::mode::Closing;
+use crate::mode::{Closing, Taken};
 use crate::needs::{Needs, needs_for};
 use crate::rules::by_queue;
-use crate::search::position::{Position, Taken};
+use crate::search::position::Position;
 use crate::trail::cells::{better_cell, write_grid};
 use crate::trail::propagators::Propagators;
 use crate::trail::trailed::TrailedBoard;

@@ -66,7 +66,7 @@ pub trait CountGame: Drop + Sized {
         ensures { IfOk result (λ scratch. serves scratch ((counts self.now).cells)) };
 
     /// Whether the grid is a solution.
-    fn accepts(&self, scratch: &mut Self::Scratch, grid: &Grid) -> bool
+    fn accept(&self, scratch: &mut Self::Scratch, grid: &Grid) -> bool
         requires fits { IsGrid ((counts self.now).cells) 2 grid.now }
         requires served { serves scratch.old ((counts self.now).cells) }
         ensures solution { result ≡ (counts self.now).is_solution grid.now }

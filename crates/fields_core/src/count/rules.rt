@@ -171,6 +171,6 @@ impl<P: CountGame> Rules for CountRules<P> {
     }
 
     fn accept(&self, scratch: &mut P::Scratch, grid: &Grid) -> bool {
-        self.puzzle.accepts(scratch, grid)
+        self.puzzle.accept(scratch, grid)
     }
 }

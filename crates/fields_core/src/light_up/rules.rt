@@ -71,7 +71,7 @@ impl CountGame for LightPuzzle {
         Ok(())
     }
 
-    fn accepts(&self, _scratch: &mut (), grid: &Grid) -> bool {
+    fn accept(&self, _scratch: &mut (), grid: &Grid) -> bool {
         check_lights(self, grid).is_none()
     }
 

@@ -86,7 +86,7 @@ impl CountGame for TentsPuzzle {
         PairingScratch::new(alloc, self.size().cells())
     }
 
-    fn accepts(&self, scratch: &mut PairingScratch, grid: &Grid) -> bool {
+    fn accept(&self, scratch: &mut PairingScratch, grid: &Grid) -> bool {
         find_fault(self, grid, scratch).is_none()
     }
 

@@ -1,5 +1,5 @@
 use Rattle.fields_core.proofs.LightRuleLemmas.{light-tells}
-use Rattle.fields_core.proofs.light_up.rules.LightPuzzleCountGame.accepts.Goals as goal
+use Rattle.fields_core.proofs.light_up.rules.LightPuzzleCountGame.accept.Goals as goal
 
 pub returns-clause-solution : goal.returns-clause-solution
 returns-clause-solution c =

@@ -1,5 +1,5 @@
 use Rattle.fields_core.proofs.TentRuleLemmas.{tents-tell}
-use Rattle.fields_core.proofs.tents.rules.TentsPuzzleCountGame.accepts.Goals as goal
+use Rattle.fields_core.proofs.tents.rules.TentsPuzzleCountGame.accept.Goals as goal
 
 pub returns-clause-solution : goal.returns-clause-solution
 returns-clause-solution c =
