@@ -1,13 +1,14 @@
 -- Closings that go around over the houses that wait, and what they came to.
-use Rattle.engine_core.proofs.Common.{BoardAndMarks, Bool, Candidates, Dead, HasStruck, IsAlive, IsClosedBy, IsClosedIn, IsClosing, IsDead, IsLawful, IsQueuedAround, IsRested, IsTaken, IsWithin, IsWoken, List, None, Open, RuleSystem, Some, [], after, arith, but, cases_Bool, cases_lt, common_steps, false, from_bool, has, if◌then◌else◌, inl, inr, is_dead, le-ltb, length, length-append, lt-ltb, ltb, max, not, refl, suc, sym, take, true, true≢false, within_inside, ℕ, ◌&&◌, ◌*◌, ◌++◌, ◌+◌, ◌-◌, ◌<◌, ◌||◌, ◌∙◌, ◌∷◌, ◌≡◌, ◌≤◌, ◌⊎◌}
+use Rattle.engine_core.proofs.Common.{BoardAndMarks, Bool, Candidates, Dead, HasStruck, IsAlive, IsClosedBy, IsClosedIn, IsClosing, IsDead, IsLawful, IsQueuedAround, IsRested, IsTaken, IsWithin, IsWoken, List, Open, RuleSystem, Some, [], after, arith, but, cases_Bool, cases_lt, common_steps, false, from_bool, has, if◌then◌else◌, inl, inr, is_dead, le-ltb, length, lt-ltb, ltb, max, not, refl, suc, sym, take, true, true≢false, within_inside, ℕ, ◌&&◌, ◌*◌, ◌++◌, ◌+◌, ◌-◌, ◌<◌, ◌||◌, ◌∙◌, ◌∷◌, ◌≡◌, ◌≤◌, ◌⊎◌}
 use Rattle.engine_core.specs.declared.mode.Closing.{Closing}
 use Rattle.engine_core.specs.declared.mode.Taken.{Taken}
 use Rattle.engine_core.proofs.ClosingLemmas.{replay_inside}
 use Rattle.engine_core.proofs.QueueLemmas.{closed_from_rested}
-use Rattle.engine_core.proofs.ListLemmas.{IsRunning, closing-dead, closing-none, closing-open, room, running-first, running-turn}
-use Rattle.engine_core.proofs.SweepLemmas.{IsMarked, IsSweeping, IsSwept, all-marked, few_sweeps, struck-more, struck-none, sweep-idle, sweeping-dead, sweeping-first, sweeping-inside, sweeping-passed, sweeping-turn, swept-alive, swept-dead, swept-first, swept-idle, swept-shut, swept-turn, woken-marked}
+use Rattle.engine_core.proofs.ListLemmas.{IsRunning, closing-dead, closing-none, closing-open, running-turn}
+use Rattle.engine_core.proofs.SweepLemmas.{IsMarked, IsSweeping, IsSwept, all-marked, few_sweeps, struck-more, struck-none, sweep-idle, sweeping-first, sweeping-inside, sweeping-passed, sweeping-turn, swept-alive, swept-dead, swept-first, swept-idle, swept-shut, swept-turn}
 
 -- What a closing came to, for a walk that goes on from it.
+
 -- where the closure is dead, any board may be left
 pub taken-dead : {p : RuleSystem} {K own E : Candidates} {trace : List ℕ} {sweeps : ℕ} → IsClosing p K own Dead trace sweeps → IsTaken p K E Dead
 taken-dead c = grind (arith, common_steps)
@@ -21,6 +22,7 @@ pub closed-in : {p : RuleSystem} {K E : Candidates} {answer : Closing} {trace : 
 closed-in c visits turns = grind (arith, common_steps)
 
 -- Closings that go around over the houses that wait.
+
 -- the board K was left in the n-th sweep of K0, which began with the board `first`, before the house `from`; each sweep
 -- before struck something
 pub record IsAmid (p : RuleSystem) (K0 : Candidates) (n from : ℕ) (first K : Candidates) (waits : ℕ → Bool) : Type 0 where
@@ -32,29 +34,6 @@ pub record IsAmid (p : RuleSystem) (K0 : Candidates) (n from : ℕ) (first K : C
 pub amid-first : (p : RuleSystem) (K : Candidates) (waits : ℕ → Bool) → IsAlive p K → IsRested p K waits → IsAmid p K 1 0 K K waits
 amid-first p K waits alive rested =
     record { whole = 0; told = refl; swept = swept-first p K alive; sweeping = sweeping-first p K waits rested }
-
--- the board K was left by so many visits of K0 in a queue, or else in the sweep of that number, before the house `from`
-pub record IsUnderway (p : RuleSystem) (K0 : Candidates) (turns from : ℕ) (K : Candidates) (waits : ℕ → Bool) : Type 0 where
-  pub past : from ≤ p.houses
-  pub made : ((p.by_queue ≡ true) × (t : List ℕ) × (length t ≡ turns) × IsRunning p K0 t K waits)
-      ⊎ ((p.by_queue ≡ false) × (first : Candidates) × IsAmid p K0 turns from first K waits)
-
-pub underway-first : (p : RuleSystem) (laws : IsLawful p) (K : Candidates) (waits : ℕ → Bool) (turns : ℕ) → IsAlive p K → IsRested p K waits
-    → turns ≡ from_bool (not p.by_queue) → IsUnderway p K turns 0 K waits
-underway-first p laws K waits turns alive rested counts = record {
-  past = omega arith;
-  made = elim (cases_Bool p.by_queue) [
-    | inl queue ↦ inl (queue, [], sym (rw queue at counts), running-first p laws K waits queue alive rested)
-    | inr sweeps ↦ (let one : turns ≡ 1 = rw sweeps at counts in inr (sweeps, K, rw one (amid-first p K waits alive rested)))
-  ];
-}
-
--- the next visit is that of h
-pub record IsAtHouse (p : RuleSystem) (K0 : Candidates) (turns h : ℕ) (K : Candidates) (waits : ℕ → Bool) : Type 0 where
-  pub house_in : h < p.houses
-  pub few : turns ≤ p.bound
-  pub made : ((p.by_queue ≡ true) × (t : List ℕ) × (length t + 1 ≡ turns) × (waits h ≡ true) × IsRunning p K0 t K waits)
-      ⊎ ((p.by_queue ≡ false) × (first : Candidates) × IsAmid p K0 turns h first K waits)
 
 pub around-in : (waits : ℕ → Bool) (n from h : ℕ) → IsQueuedAround waits n from (Some h) → (h < n) × (waits h ≡ true)
 around-in waits n from h around = grind (arith, common_steps)
@@ -171,71 +150,6 @@ module _ (p : RuleSystem) (laws : IsLawful p) (K0 : Candidates) (within : IsWith
   amid-open {first} {K} {waits} s past sweeps alive none =
       let all = amid-whole s past (λ h le lt. none h lt) in
       rw s.told (swept-shut p laws s.whole first K sweeps within s.swept all.left alive (closed_from_rested p K waits none all.rested))
-
-  pub underway-next : {turns from h : ℕ} {K : Candidates} {waits : ℕ → Bool} → IsUnderway p K0 turns from K waits
-      → (more : ℕ) → IsAlive p K → IsQueuedAround waits p.houses from (Some h) → more ≡ from_bool (p.by_queue || ltb h from)
-      → IsAtHouse p K0 (turns + more) h K waits
-  underway-next {from} {h} {waits} u more alive around counts =
-      let w = around-in waits p.houses from h around in
-      elim u.made [
-        | inl r ↦ (
-            let one : more ≡ 1 = rw r.0 at counts in
-            record {
-              house_in = w.0;
-              few = omega (arith, room r.3 w.0 w.1, r.2, one);
-              made = inl (r.0, r.1, omega (arith, r.2, one), w.1, r.3);
-            })
-        | inr s ↦ elim (amid-next s.2 u.past more (λ lt. alive) around (rw s.0 at counts)) [
-          | inl here ↦ record { house_in = w.0; few = amid-few here.1 s.0; made = inr (s.0, s.1, here.1) }
-          | inr new ↦ record { house_in = w.0; few = amid-few new.1 s.0; made = inr (s.0, _, new.1) }
-        ]
-      ]
-
-  pub underway-turn : {turns h : ℕ} {K : Candidates} {waits : ℕ → Bool} → IsAtHouse p K0 turns h K waits → (K' : Candidates) (waits' : ℕ → Bool)
-      → IsWithin p.cells p.values K → K' ≡ after p h K → IsWoken p h K K' waits waits' → IsAlive p K' → IsUnderway p K0 turns (h + 1) K' waits'
-  underway-turn {h} {K} {waits} v K' waits' fits e woke alive = record {
-    past = omega (arith, v.house_in);
-    made = elim v.made [
-      | inl r ↦ inl (
-        r.0,
-        r.1 ++ h ∷ [],
-        omega (arith, length-append r.1 (h ∷ []), r.2),
-        running-turn p laws K0 r.1 K K' waits waits' h r.4 v.house_in r.3 fits e woke alive,
-      )
-      | inr s ↦ inr (s.0, s.1, amid-turn s.2 v.house_in e (woken-marked p laws h K v.house_in fits e woke))
-    ];
-  }
-
-  -- of a queue any house may come next
-  pub underway-on : {turns from next : ℕ} {K : Candidates} {waits : ℕ → Bool} → IsUnderway p K0 turns from K waits → next ≤ p.houses
-      → (p.by_queue ≡ false → next ≡ from) → IsUnderway p K0 turns next K waits
-  underway-on {next} u past order = record {
-    past = past;
-    made = elim u.made [ inl r ↦ inl r | inr s ↦ inr (s.0, s.1, rw (order s.0) s.2) ];
-  }
-
-  -- a visit that would leave a cell without a value ends the closing, whatever the sweep still visits
-  pub underway-dead : {turns h : ℕ} {K : Candidates} {waits : ℕ → Bool} → IsAtHouse p K0 turns h K waits → (E : Candidates)
-      → IsDead p (after p h K) → IsTaken p K0 E Dead × IsClosedIn p K0 turns
-  underway-dead {h} {K} {waits} v E dead = elim v.made [
-    | inl r ↦ (
-        let c = closing-dead p laws K0 r.1 K _ waits h r.0 within r.4 v.house_in r.3 refl dead in
-        (taken-dead c, closed-in c (λ _. omega (arith, length-append r.1 (h ∷ []), r.2)) (λ e. absurd (true≢false (sym r.0 ∙ e)))))
-    | inr s ↦ (
-        let c = swept-dead p laws K0 s.2.whole s.1 s.0 within s.2.swept (sweeping-dead s.2.sweeping v.house_in dead) in
-        (taken-dead c, closed-in c (λ e. absurd (true≢false (sym e ∙ s.0))) (λ _. sym s.2.told)))
-  ]
-
-  pub underway-open : {turns from : ℕ} {K : Candidates} {waits : ℕ → Bool} → IsUnderway p K0 turns from K waits → IsAlive p K
-      → IsQueuedAround waits p.houses from None → IsTaken p K0 K Open × IsClosedIn p K0 turns
-  underway-open {K} {waits} u alive none = elim u.made [
-    | inl r ↦ (
-        let c = closing-open p laws K0 r.1 K waits r.0 within r.3 none in
-        (taken-open c, closed-in c (λ _. r.2) (λ e. absurd (true≢false (sym r.0 ∙ e)))))
-    | inr s ↦ (
-        let c = amid-open s.2 u.past s.0 alive none in
-        (taken-open c, closed-in c (λ e. absurd (true≢false (sym e ∙ s.0))) (λ _. refl)))
-  ]
 
   pub queued-turn : {t : List ℕ} {K : Candidates} {waits : ℕ → Bool} → IsRunning p K0 t K waits → {h : ℕ} (K' : Candidates) {waits' : ℕ → Bool}
       (dead : Bool) → p.by_queue ≡ true → IsWithin p.cells p.values K → h < p.houses → waits h ≡ true → K' ≡ after p h K

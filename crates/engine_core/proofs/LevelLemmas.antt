@@ -38,6 +38,7 @@ pub open-room : {p : RuleSystem} {level : Level} {n : ℕ} → IsOpen p level n 
 open-room {p} {level} o = let best = open-cell o in omega (arith, singles-room p level.board best.within best.two)
 
 -- The levels of a search: what its frames and its marks say of the boards that are open.
+
 -- ---- the levels of frames
 frame_at-here : (frames : List Frame) (n : ℕ) (f : Frame) → n < length frames → frame_at (set frames n f) n ≡ f
 frame_at-here frames n f lt = get_or-set_same frames n f (record { cell = 0; next = 0; mark = 0 }) lt
@@ -249,6 +250,7 @@ unfolding levels_of pending
 walk-alone p K s frames = grind (arith, common_steps)
 
 -- A board is closed and judged: the marks that are to come then.
+
 -- ---- a closing and its judgement, as equations of the marks that are to come
 -- the board of s under these frames, and the board of s' that its closing left
 pub record IsDescent (p : RuleSystem) (s s' : Standing) (frames : List Frame) (n : ℕ) : Type 0 where

@@ -2,7 +2,7 @@ pub mod Common
 pub mod AroundLemmas
 pub mod SetLemmas
 pub mod ClosingLemmas
-pub mod IndexLemmas
+pub mod MarkLemmas
 pub mod QueueLemmas
 pub mod ListLemmas
 pub mod SweepLemmas

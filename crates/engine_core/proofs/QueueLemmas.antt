@@ -259,6 +259,7 @@ unfolding woken
 woken-none p h K K' waits j same = grind (arith, common_steps, and_parts, any_below-some, cases_Bool, eq-eqb, not-true)
 
 -- Boards that differ in one cell alone.
+
 -- ---- a cell of which less is left
 pub left-inside : (K : Candidates) (place bits : ℕ) → IsInside (left_by K place bits) K
 unfolding left_by
@@ -299,6 +300,7 @@ pub bits-several : {set : ℕ → Bool} (value : ℕ) {n before : ℕ} → IsBit
 bits-several value was several e = grind (arith, common_steps, power-bits, count_below-few, eqb-true)
 
 -- Which houses wait after others were called for.
+
 -- where no house is called for, nothing changes
 pub woken-by_none : {p : RuleSystem} {called waits : ℕ → Bool} → ((j : ℕ) → j < p.houses → called j ≡ false) → AreWoken p called waits waits
 woken-by_none none = record { marks = λ j lt. rw (none j lt) unwoken }

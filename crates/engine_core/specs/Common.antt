@@ -15,7 +15,7 @@ unfoldable pub use Rattle.engine_core.specs.Frames.{singles}
 pub use Rattle.engine_core.specs.HouseSets.{AreBelow, AreBitsAt}
 unfoldable pub use Rattle.engine_core.specs.HouseSets.{kept_in, sets_at}
 pub use Rattle.engine_core.specs.Keeping.{AreHeadSets, AreSets, AreSetsOf, HasSetRoom, IsFiltered, IsKept, IsKeptOf, StillServes}
-pub use Rattle.engine_core.specs.HouseList.{AreScopesOf, most_turns, table_of}
+pub use Rattle.engine_core.specs.HouseList.{AreScopesOf, listed_visits, table_of}
 pub use Rattle.engine_core.specs.Mode.{is_queue}
 pub use Rattle.engine_core.specs.Needs.{needs_in}
 pub use Rattle.engine_core.specs.Position.{IsClosedBut, IsFull, IsOnward, IsReturned, IsTaken, IsTakenTo, Room, Standing, is_solved, most_changes, own_grid}

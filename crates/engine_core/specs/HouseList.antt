@@ -1,5 +1,5 @@
 -- Lists of houses, tables of them, and rules whose houses are listed.
-use Rattle.std.specs.Prelude.{List, [], drop, if◌then◌else◌, length, map, nat_lt, slice_index, slice_index_or, sum_by, ℕ, ◌&&◌, ◌*◌, ◌++◌, ◌+◌, ◌-◌, ◌/◌, ◌<◌, ◌==◌, ◌^◌, ◌||◌, ◌∷◌, ◌≡◌, ◌≤◌}
+use Rattle.std.specs.Prelude.{List, [], drop, length, map, nat_lt, slice_index, slice_index_or, sum_by, ℕ, ◌&&◌, ◌*◌, ◌++◌, ◌+◌, ◌/◌, ◌<◌, ◌==◌, ◌^◌, ◌||◌, ◌∷◌, ◌≡◌, ◌≤◌}
 use Rattle.grid_core.specs.Pieces.{AreEnds, last_end, pieces}
 use Rattle.engine_core.specs.RuleSystem.{RuleSystem, has_place}
 use Rattle.engine_core.specs.HouseSets.{AreBelow, AreDifferent}
@@ -7,6 +7,7 @@ use Rattle.engine_core.specs.Sets.{is_waiting, words_of}
 use Rattle.engine_core.specs.HouseRules.{House}
 
 -- Lists of places, one after another in one list.
+
 -- the lists that are closed, and what is begun of the next
 pub record Listed : Type 0 where
   pub closed : List (List ℕ)
@@ -38,6 +39,7 @@ pub record IsListed (places ends : List ℕ) : Type 0 where
   pub few_begun : length places < last_end 0 ends + 2 ^ 12
 
 -- Tables of houses: which places each house has, and which houses have a place.
+
 -- what callers see of a table of houses: how many cells the board has, and each house's places
 pub record Table : Type 0 where
   pub cells : ℕ
@@ -85,6 +87,7 @@ pub record HasMarked (words house : ℕ) (places old new : List ℕ) : Type 0 wh
       ≡ (is_waiting old (place_bit words place h) || ((h == house) && has_place places place))
 
 -- Rules whose houses are listed.
+
 -- each house has the list's places
 pub record AreScopesOf (p : RuleSystem) (scopes : List (List ℕ)) : Type 0 where
   pub as_many : p.houses ≡ length scopes
@@ -94,12 +97,9 @@ pub record AreScopesOf (p : RuleSystem) (scopes : List (List ℕ)) : Type 0 wher
 abbrev pub table_of : RuleSystem → List (List ℕ) → Table
 table_of p scopes = record { cells = p.cells; scopes = scopes }
 
--- the most visits of a closing by a queue: one of each house, and one more for each value of each of its cells; and the most
--- sweeps: one for each value that a cell can lose, and one more
-abbrev pub most_turns : RuleSystem → List (List ℕ) → ℕ
-most_turns p scopes =
-    if p.by_queue then sum_by length scopes * p.values + length scopes
-    else p.cells * (p.values - 1) + 1
+-- the visits that they can call for: one of each house, and one more for each value of each of its cells
+abbrev pub listed_visits : ℕ → List (List ℕ) → ℕ
+listed_visits values scopes = sum_by length scopes * values + length scopes
 
 -- the places of each of the houses
 abbrev pub all_places : List House → List (List ℕ)

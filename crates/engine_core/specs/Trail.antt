@@ -7,7 +7,8 @@ use Rattle.engine_core.specs.Queue.{IsRested, IsWoken, counts_of}
 use Rattle.engine_core.specs.Sets.{AreWoken, has_bit, is_waiting, words_of}
 use Rattle.engine_core.specs.Position.{IsClosedBut, Standing}
 
--- A board with the trail of its changes, so that it can be put back. No public contract uses these words.
+-- A board with the trail of its changes, so that it can be put back.
+
 -- a change: the cell, and the set that it had before, as bits
 abbrev pub change_at : List (ℕ × ℕ) → ℕ → ℕ × ℕ
 change_at changes k = slice_index_or changes k (0, 0)
@@ -85,7 +86,8 @@ pub record IsStruck (p : RuleSystem) (h : ℕ) (from to : Trail) : Type 0 where
   pub alive : IsAlive p (has to.board)
   pub lost : AreLost p h (length (p.scope h)) from to
 
--- A board with its trail as a position, and which houses wait. No public contract uses these words.
+-- A board with its trail as a position.
+
 -- what the memory was taken for, the board with its trail, and which houses wait
 pub record Placed : Type 0 where
   pub made : Needs

@@ -2,25 +2,27 @@
 #![tactic(auto, using(crate::proofs::LawSets::house_rules_laws))]
 
 ghost use Rattle.std.specs.Prelude.{◌<◌, ◌≡◌, ◌≤◌, IfOk, false, length, true};
-ghost use Rattle.engine_core.specs.Common.{has, SameShape, HasStruck, HasSetRoom, IsBoardOf, after, needs_of, StillServes, table_of};
+ghost use Rattle.engine_core.specs.Common.{AreWokenAt, HasSetRoom, HasStruck, IsBoardOf, IsFiltered, SameShape, StillServes, after, has, needs_of, table_of, words_of};
+ghost use Rattle.engine_core.specs.declared.mode.Mode.TheVariants.{Queue};
 
 use crate::houses::table::{HouseTable, join_marks};
 use crate::houses::visit::{apply, gather};
 use crate::mode::Mode;
-use crate::rule_set::RuleSet;
+use crate::rule_set::{RuleParts, RuleSet};
 use crate::rules::Rules;
 use crate::search::position::Searchable;
 use crate::trail::position::TrailPosition;
-use crate::trail::propagators::Propagators;
 use grid_core::{Board, Fixed, Grid};
 use std::alloc::{AllocError, Global};
 
-/// The rules of a puzzle, with the table of its houses.
+/// The rules of a puzzle, with the table of its houses, and how many values a full set has.
 #[derive(Drop)]
 pub struct HouseRules<S: RuleSet> {
-    set: S,
+    pub(crate) set: S,
     table: HouseTable,
+    values: u8,
     ghost listed: { table ≡ table_of (S.system (S.puzzle_of set)) (S.scopes (S.puzzle_of set)) },
+    ghost full: { values ≡ (S.system (S.puzzle_of set)).values },
 }
 
 /// What a visit works in: the sets of a house's cells, what is kept of them, and what decides it.
@@ -39,9 +41,39 @@ impl<S: RuleSet> HouseRules<S> {
         ensures rules { IfOk result (λ rules. ⟦<HouseRules<S> as Rules>⟧.system rules
             ≡ S.system puzzle.now) }
     {
-        let (set, list) = S::list(alloc, puzzle)?;
-        let table = HouseTable::of(alloc, set.cells(), list)?;
-        Ok(HouseRules { set, table })
+        let RuleParts {
+            set,
+            houses,
+            cells,
+            values,
+        } = S::parts(alloc, puzzle)?;
+        let table = HouseTable::of(alloc, cells, houses)?;
+        Ok(HouseRules { set, table, values })
+    }
+
+    /// Reads the sets of the house's cells, and decides what a visit keeps of them, at the head of the two lists. Says whether
+    /// anything may be struck; else nothing is.
+    pub(crate) fn filter(
+        &self,
+        house: usize,
+        board: &Board,
+        sets: &mut [u32],
+        kept: &mut [u32],
+        work: &mut S::Scratch,
+    ) -> bool
+        requires house_in { house < (S.system (S.puzzle_of self.now.set)).houses }
+        requires board_of { IsBoardOf (S.system (S.puzzle_of self.now.set)) board.now }
+        requires sets_room { HasSetRoom (S.system (S.puzzle_of self.now.set)) house sets.old }
+        requires kept_room { HasSetRoom (S.system (S.puzzle_of self.now.set)) house kept.old }
+        requires served { S.serves work.old (needs_of (S.system (S.puzzle_of self.now.set))) }
+        ensures filtered { IsFiltered (S.system (S.puzzle_of self.now.set)) house (has board.now)
+            result sets.new kept.new }
+        ensures keeps { StillServes S.serves work.old work.new }
+    {
+        let places = self.table.list.places(house);
+        let (sets, kept) = (&mut sets[..places.len()], &mut kept[..places.len()]);
+        gather(board, places, sets);
+        self.set.filter(house, sets, kept, work)
     }
 
     /// Strikes from the house what it strikes.
@@ -66,9 +98,16 @@ impl<S: RuleSet> HouseRules<S> {
         ensures keeps { StillServes S.serves work.old work.new }
     {
         let places = self.table.list.places(house);
-        let (sets, kept) = (&mut sets[..places.len()], &mut kept[..places.len()]);
-        gather(board, places, sets);
-        self.set.filter(house, sets, kept, work) && apply(board, places, kept)
+        self.filter(house, board, sets, kept, work) && apply(board, places, &kept[..places.len()])
+    }
+
+    /// Marks the houses that have the place.
+    pub(crate) fn wake(&self, place: usize, waits: &mut [u64])
+        requires place_in { place < (S.system (S.puzzle_of self.now.set)).cells }
+        requires room { words_of (S.system (S.puzzle_of self.now.set)).houses ≤ length waits.old }
+        ensures { AreWokenAt (S.system (S.puzzle_of self.now.set)) place waits.old waits.new }
+    {
+        join_marks(waits, self.table.marks_at(place));
     }
 }
 
@@ -80,13 +119,13 @@ impl<S: RuleSet> Rules for HouseRules<S> {
 
     const SETTLED: bool = S::SETTLED;
 
-    const MODE: Mode = S::MODE;
+    const MODE: Mode = Mode::Queue;
 
     ghost system = { λ r. S.system (S.puzzle_of r.set) };
 
     ghost SETTLED = { S.SETTLED };
 
-    ghost MODE = { S.MODE };
+    ghost MODE = { Queue };
 
     ghost serves = { λ w needs. (needs.scope ≤ vec_len w.sets) × (needs.scope ≤ vec_len w.kept)
         × S.serves w.work needs };
@@ -95,7 +134,7 @@ impl<S: RuleSet> Rules for HouseRules<S> {
 
     ghost settled_is = { λ r. S.settled_is (S.puzzle_of r.set) };
 
-    ghost mode_is = { λ r. S.mode_is (S.puzzle_of r.set) };
+    ghost mode_is = { λ r. S.by_queue (S.puzzle_of r.set) };
 
     ghost serves_smaller = { λ w need had f s. (
       le_trans f.scope_in s.0,
@@ -104,11 +143,11 @@ impl<S: RuleSet> Rules for HouseRules<S> {
     ) };
 
     fn cells(&self) -> usize {
-        self.set.cells()
+        self.table.cells()
     }
 
     fn values(&self) -> u8 {
-        self.set.values()
+        self.values
     }
 
     fn houses(&self) -> usize {
@@ -116,11 +155,7 @@ impl<S: RuleSet> Rules for HouseRules<S> {
     }
 
     fn bound(&self) -> usize {
-        let values = usize::from(self.set.values());
-        match S::MODE {
-            Mode::Queue => self.table.list.total() * values + self.table.list.len(),
-            Mode::Sweep => self.set.cells() * (values - 1) + 1,
-        }
+        self.table.list.total() * usize::from(self.values) + self.table.list.len()
     }
 
     fn scope_len(&self, house: usize) -> usize {
@@ -163,30 +198,6 @@ impl<S: RuleSet> Rules for HouseRules<S> {
     }
 }
 
-impl<S: RuleSet> Propagators for HouseRules<S> {
-    fn read(&self, house: usize, board: &Board, sets: &mut [u32]) {
-        gather(board, self.table.list.places(house), sets);
-    }
-
-    fn filter(
-        &self,
-        house: usize,
-        sets: &[u32],
-        kept: &mut [u32],
-        scratch: &mut HouseScratch<S::Scratch>,
-    ) -> bool {
-        self.set.filter(house, sets, kept, &mut scratch.work)
-    }
-
-    fn completes(&self, scratch: &mut HouseScratch<S::Scratch>, grid: &Grid) -> bool {
-        self.set.completes(&mut scratch.work, grid)
-    }
-
-    fn wake(&self, place: usize, waits: &mut [u64]) {
-        join_marks(waits, self.table.marks_at(place));
-    }
-}
-
 impl<S: RuleSet> Searchable for HouseRules<S> {
-    type Position = TrailPosition<HouseRules<S>>;
+    type Position = TrailPosition<S>;
 }

@@ -1,14 +1,21 @@
 //! What only a game knows of rules that are made of listed houses.
 
-ghost use Rattle.std.specs.Prelude.{◌<◌, ◌≡◌, Bool, IfOk, List, ℕ, length};
-ghost use Rattle.engine_core.specs.Common.{has, SameShape, Candidates, RuleSystem, IsLawful, IsClosedGrid, IsGridOf, Needs, needs_of, FitsIn, IsBoardOf, Mode, AreSetsOf, AreSets, IsKeptOf, AreScopesOf, most_turns, is_queue};
+ghost use Rattle.std.specs.Prelude.{◌<◌, ◌≡◌, Bool, IfOk, List, ℕ, length, true};
+ghost use Rattle.engine_core.specs.Common.{has, SameShape, RuleSystem, IsLawful, IsClosedGrid, IsGridOf, Needs, needs_of, FitsIn, IsBoardOf, AreSets, IsKeptOf, AreScopesOf, StillServes, listed_visits};
 
 use crate::houses::list::HouseList;
-use crate::mode::Mode;
 use grid_core::{Board, Grid};
 use std::alloc::{AllocError, Global};
 
-/// The rules of one puzzle, but for what they do along the lists of its houses.
+/// All that rules are made of: what their houses decide, the places of each house, and how many cells and values a board has.
+pub struct RuleParts<S> {
+    pub set: S,
+    pub houses: HouseList,
+    pub cells: usize,
+    pub values: u8,
+}
+
+/// The rules of one puzzle, but for what they do along the lists of its houses. A board is closed by a queue.
 pub trait RuleSet: Drop + Sized {
     /// What the rules are made of.
     type Puzzle;
@@ -18,9 +25,6 @@ pub trait RuleSet: Drop + Sized {
 
     /// After a visit the house itself strikes nothing more.
     const SETTLED: bool;
-
-    /// How a board is closed.
-    const MODE: Mode;
 
     /// The puzzle whose rules these are.
     ghost puzzle_of: { Self → Self.Puzzle };
@@ -36,24 +40,16 @@ pub trait RuleSet: Drop + Sized {
 
     ghost SETTLED: { Bool };
 
-    ghost MODE: { Mode };
-
     /// The scratch is large enough for rules of these sizes.
     ghost serves: { Self.Scratch → Needs → Type 0 };
 
-    /// The rules of the puzzle, of which they keep a copy, and the places of its houses.
-    fn list(alloc: Global, puzzle: &Self::Puzzle) -> Result<(Self, HouseList), AllocError>
+    /// The rules of the puzzle, of which they keep a copy, with the places of its houses.
+    fn parts(alloc: Global, puzzle: &Self::Puzzle) -> Result<RuleParts<Self>, AllocError>
         ensures known { known puzzle.now }
-        ensures copied { IfOk result (λ listed. puzzle_of listed.0 ≡ puzzle.now) }
-        ensures scopes { IfOk result (λ listed. listed.1.closed ≡ scopes puzzle.now) };
-
-    /// How many cells a board has.
-    fn cells(&self) -> usize
-        ensures { result ≡ (system (puzzle_of self.now)).cells };
-
-    /// How many values a full set has.
-    fn values(&self) -> u8
-        ensures { result ≡ (system (puzzle_of self.now)).values };
+        ensures copied { IfOk result (λ parts. puzzle_of parts.set ≡ puzzle.now) }
+        ensures scopes { IfOk result (λ parts. parts.houses.closed ≡ scopes puzzle.now) }
+        ensures cells { IfOk result (λ parts. parts.cells ≡ (system puzzle.now).cells) }
+        ensures values { IfOk result (λ parts. parts.values ≡ (system puzzle.now).values) };
 
     /// Writes the board that a search starts from, whatever it held.
     fn start(&self, board: &mut Board)
@@ -80,14 +76,14 @@ pub trait RuleSet: Drop + Sized {
         requires served { serves scratch.old (needs_of (system (puzzle_of self.now))) }
         requires sets { AreSets (system (puzzle_of self.now)) house sets.now }
         ensures kept { IsKeptOf (system (puzzle_of self.now)) house sets.now result kept.new }
-        ensures keeps { (needs : Needs) → serves scratch.old needs → serves scratch.new needs };
+        ensures keeps { StillServes serves scratch.old scratch.new };
 
     /// Whether the grid is a solution. It has a number below `values` for each cell, by place.
     fn accept(&self, scratch: &mut Self::Scratch, grid: &Grid) -> bool
         requires fits { IsGridOf (system (puzzle_of self.now)) grid.now }
         requires served { serves scratch.old (needs_of (system (puzzle_of self.now))) }
         ensures solution { result ≡ (system (puzzle_of self.now)).is_solution grid.now }
-        ensures keeps { (needs : Needs) → serves scratch.old needs → serves scratch.new needs };
+        ensures keeps { StillServes serves scratch.old scratch.new };
 
     /// Whether the grid, from which no house strikes anything, is a solution. Rules whose houses say all of a solution need
     /// not look at it.
@@ -95,7 +91,7 @@ pub trait RuleSet: Drop + Sized {
         requires closed { IsClosedGrid (system (puzzle_of self.now)) grid.now }
         requires served { serves scratch.old (needs_of (system (puzzle_of self.now))) }
         ensures solution { result ≡ (system (puzzle_of self.now)).is_solution grid.now }
-        ensures keeps { (needs : Needs) → serves scratch.old needs → serves scratch.new needs }
+        ensures keeps { StillServes serves scratch.old scratch.new }
     {
         self.accept(scratch, grid)
     }
@@ -107,14 +103,14 @@ pub trait RuleSet: Drop + Sized {
 
     ghost settled_is: { (puzzle : Self.Puzzle) → (system puzzle).visits_settle ≡ SETTLED };
 
-    ghost mode_is: { (puzzle : Self.Puzzle) → (system puzzle).by_queue ≡ is_queue MODE };
+    ghost by_queue: { (puzzle : Self.Puzzle) → (system puzzle).by_queue ≡ true };
 
     /// The houses have these places.
     ghost scopes_are: { (puzzle : Self.Puzzle) → AreScopesOf (system puzzle) (scopes puzzle) };
 
-    /// The bound goes by the mode.
+    /// A closing makes as many visits at most as the houses can call for.
     ghost bound_is: { (puzzle : Self.Puzzle)
-        → (system puzzle).bound ≡ most_turns (system puzzle) (scopes puzzle) };
+        → (system puzzle).bound ≡ listed_visits (system puzzle).values (scopes puzzle) };
 
     /// A scratch serves smaller rules too.
     ghost serves_smaller: { (scratch : Self.Scratch) (need had : Needs) → FitsIn need had

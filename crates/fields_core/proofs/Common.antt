@@ -49,7 +49,7 @@ pub use Rattle.gameid_core.specs.Puzzles.{AreCounts, IsLight, IsLightCell, IsTen
 pub use Rattle.gameid_core.specs.declared.light_up.cell.LightCell.{LightCell}
 pub use Rattle.gameid_core.specs.declared.light_up.cell.LightCell.TheVariants.{Black, Numbered, White}
 pub use Rattle.engine_core.proofs.HouseLemmas.{IsStriking, kept-inside, striking-more}
-pub use Rattle.engine_core.proofs.IndexLemmas.{counted, not_taken, numbered, taken-here, taken-other}
+pub use Rattle.engine_core.proofs.MarkLemmas.{counted, not_taken, numbered, taken-here, taken-other}
 pub use Rattle.engine_core.specs.ClosingList.{IsClosing}
 pub use Rattle.engine_core.specs.Filling.{Fills, IsShown, has_value, strikes_by_fillings}
 pub use Rattle.engine_core.specs.FillingLaws.{Fills-cons, Fills-tail, filling_from_test, has_value_below, shown_from_test, test_from_filling, test_from_shown}

@@ -65,6 +65,7 @@ pub listed-crossings : (p : Solo) (none first second : Listed) → none ≡ clos
 listed-crossings p none first second z a b = grind (arith, common_steps, listed-deciding, map-append)
 
 -- Houses and crossings by their numbers, and lists of their places.
+
 -- ---- a list that begins with the values of a function
 module _ {X : Type 0} (f : ℕ → X) {n : ℕ} (rest : List X) {h : ℕ} (d : X) where
   pub part_first : h < n → get_or (map f (range_with_len 0 n) ++ rest) h d ≡ f h
@@ -156,6 +157,7 @@ module _ (p : Solo) where
   scope-named h d lt = ap (λ xs. house_of xs h) (sym all-named) ∙ get_or-map _ _ h d no_house lt
 
 -- The places of the houses, as they are listed one after another.
+
 -- ---- the values of a function
 pub same_values : (f g : ℕ → ℕ) (n : ℕ) → ((k : ℕ) → k < n → f k ≡ g k) → map f (range_with_len 0 n) ≡ map g (range_with_len 0 n)
 same_values f g n same =
@@ -352,6 +354,7 @@ module _ (p : Solo) (ok : IsSolo p) {g : List ℕ} (grid : IsClosedGrid (houses_
       (each_test (λ house. no_repeat (numbers_of p g house)) (houses_of p) filled)
 
 -- The start board, written cell by cell.
+
 -- the start as far as the cells before `upto`
 pub started : Solo → ℕ → Candidates
 started p upto c v =

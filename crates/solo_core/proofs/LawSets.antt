@@ -7,8 +7,8 @@ use Rattle.solo_core.proofs.SinglesLemmas.{singles_in_houses}
 use Rattle.solo_core.proofs.PeelLemmas.{lone-counts, counts-none, counts-more, peeled-step, counts-same, peeled-none, peeled-more, rest-peeled, settled-peeled}
 use Rattle.solo_core.proofs.MateLemmas.{goes_on_free, begun-none, goes_on_swapped}
 use Rattle.solo_core.proofs.WayLemmas.{over_none, over_next}
-use Rattle.solo_core.proofs.Marks.{bits_joined, single_bit}
-use Rattle.solo_core.proofs.Turned.{after-root, before-root, all_inside, after-step, before-step}
+use Rattle.solo_core.proofs.BitLemmas.{bits_joined, single_bit}
+use Rattle.solo_core.proofs.TurnLemmas.{after-root, before-root, all_inside, after-step, before-step}
 
 pub ruleset check_laws = (given_first, len_of, number_at, seen_none, seen_more, seen_again, seen_all, fine_more)
 

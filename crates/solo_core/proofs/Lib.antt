@@ -1,7 +1,7 @@
 pub mod Common
-pub mod Marks
+pub mod BitLemmas
 pub mod WayLemmas
-pub mod Turned
+pub mod TurnLemmas
 pub mod RepeatLemmas
 pub mod HouseLemmas
 pub mod SinglesLemmas

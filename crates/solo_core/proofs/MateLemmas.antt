@@ -4,6 +4,7 @@ use mir.Val.{bool_byte}
 
 -- A pairing of the cells with values is a filling without repeat, and a short set rules out every one. The values of the cells that
 -- are alone and a pairing of the rest make a pairing of the house.
+
 -- a set of bits has the values below n whose bit is set
 pub has_set_of_bits : {n : ℕ} (bits : ℕ) {v : ℕ} → v < n → has_value (set_of_bits n bits) v ≡ has_bit bits v
 unfolding set_of_bits

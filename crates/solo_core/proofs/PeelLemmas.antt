@@ -1,9 +1,10 @@
 -- Houses in which cells are alone, and houses that are whole.
 use Rattle.solo_core.proofs.Common.{AreAllCounts, AreAlone, AreLone, AreSettled, AreValueCounts, AreWhole, Bool, IsAlone, IsDropped, IsOutside, IsPeeled, IsRest, IsSingleSet, KeepsFillings, KeepsOthers, List, PairsCells, and_le_r, ap, arith, bit_and, both-bits, cases_Bool, cases_eq, common_steps, cond, eq-eqb, eqb, eqb-true, false, false_from_ne_true, get_or-map-range_with_len, has_bit, has_in, inl, inr, is_struck, length, length-map-range_with_len, ltb, map, meets, nat_tests, ne_eqb, no_repeat, none_missed, not, range_with_len, refl, rest_of, set_of_bits, shown_from_test, slice_index, suc, sym, true, true_from_ne_false, true≢false, zero, zero-bits, ℕ, ◌&&◌, ◌<◌, ◌^◌, ◌||◌, ◌∙◌, ◌≡◌, ◌≤◌, ◌⊎◌}
 use Rattle.solo_core.proofs.MateLemmas.{decided_by_all, last, last-below, last-passes, pairing_of_filling, rest-apart, rest-has, rest-in, rest-within, shown_by_pairing}
-use Rattle.solo_core.proofs.Marks.{none_in_zero, some_set}
+use Rattle.solo_core.proofs.BitLemmas.{none_in_zero, some_set}
 
 -- Striking the value of a cell that has one alone from the other cells takes no filling away.
+
 -- ---- what is peeled
 -- a pairing is one of other sets where they have its values too
 pairing_over : {n : ℕ} (old new : List ℕ) {mates : List ℕ} → length new ≡ length old
@@ -227,6 +228,7 @@ decided_by_peeled {n} {sets} {peeled} e d = record {
 -- A house in which each cell that is not alone has all values but those of the cells that are: each value of a cell is in a
 -- filling. First each cell has its own number. Then one cell after another that is alone gets its value, from the cell that has
 -- it, which takes the other's in turn. At last the cell gets the value.
+
 -- ---- numbers in another order
 record Permutes (n : ℕ) (f : ℕ → ℕ) : Type 0 where
   below : (x : ℕ) → x < n → f x < n

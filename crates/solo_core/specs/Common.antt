@@ -1,4 +1,4 @@
--- The names that most laws and proofs cite, passed on from one place. Declares nothing.
+-- Words of std, of the crates below and of this crate, as its definitions, code and proofs use them. Declares nothing.
 pub use Rattle.std.specs.List.{FoldsTo, filter, list_all, list_any, range_with_len}
 pub use Rattle.std.proofs.lemmas.Bool.{MatchBool-at_false, MatchBool-at_true, and_cases, and_from, and_parts, and_right, cases_Bool, cases_eq, cases_lt}
 pub use Rattle.std.proofs.lemmas.Bool.{cases_order, eq-eqb, eqb-true, false_from_ne_true, le-leb, le-ltb, leb-true, lt-ltb, ltb-true, ne_eqb, not-false}

@@ -27,6 +27,7 @@ abbrev pub block_of : Solo → ℕ → ℕ
 block_of p place = (row_of p place / p.c) * p.c + column_of p place / p.r
 
 -- The condition of a house of Solo.
+
 -- no number stands twice
 unfoldable pub no_repeat : List ℕ → Bool
 no_repeat [] = true
@@ -34,6 +35,7 @@ no_repeat (x ∷ xs) = not (list_any (λ y. x == y) xs) && no_repeat xs
 
 -- The houses of a puzzle of Solo: the rows from the top, the columns from the left, the blocks, and in Solo X both
 -- diagonals, of which 0 begins at the top left and 1 at the top right.
+
 -- in the order of their numbers
 abbrev pub houses_of : Solo → List NamedHouse
 houses_of p =

@@ -15,6 +15,6 @@ pub mod BoundLaws
 pub mod Faults
 pub mod Bits
 pub mod Ways
-pub mod Peeled
-pub mod Quick
+pub mod PeeledHouses
+pub mod QuickPairings
 pub mod Work

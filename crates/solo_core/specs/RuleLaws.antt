@@ -3,8 +3,8 @@ use Rattle.std.proofs.Common.{◌≡◌, ℕ, ◌*◌, ◌<◌, Bool, true, fals
 use Rattle.solo_core.specs.Common.{range_with_len, and_parts, ltb-true, true≢false, nat_tests, mul-le, get_or-map, length-map, All-append, All-map, IsInside, IsWithin, single, IsGrid, Solo, IsSolo, solo_n, IsLawful, Decision, IsMonotone, House, IsSettled, Keeps, IsSound, IsSetting, NamedHouse, Row, Column, Block, solo_cells, houses_of, IsHouseOf, places_of, numbers_of, is_solo_solution, no_repeat}
 use Rattle.grid_core.proofs.GridLemmas.{single-is}
 use Rattle.engine_core.specs.HouseSetsLaws.{by_fillings-monotone}
-use Rattle.engine_core.specs.HouseList.{AreScopesOf, all_places, most_turns}
-use Rattle.engine_core.specs.ListedLaws.{listed-bound, listed-scopes}
+use Rattle.engine_core.specs.HouseList.{AreScopesOf, all_places, listed_visits}
+use Rattle.engine_core.specs.ListedLaws.{listed-scopes, visits-listed}
 use Rattle.engine_core.specs.HouseRulesLaws.{by_houses-lawful, bound_enough, by_fillings-settles, by_fillings-keeps}
 use Rattle.solo_core.specs.RuleSets.{start, house_by, house_at, deciding, crossings_of, setting_of, filled_houses, single_houses, crossing_of, rules_of, singles_rules, houses_rules, crossings_rules}
 use Rattle.solo_core.specs.declared.houses.scope.VisitName.{VisitName}
@@ -20,8 +20,8 @@ pub listed_in_rules : (settled : Bool) (p : Solo) (houses : List House) → AreS
 listed_in_rules settled p houses = listed-scopes (setting_of settled p houses) houses
 
 pub bound_of_rules : (settled : Bool) (p : Solo) (houses : List House)
-    → (rules_of settled p houses).bound ≡ most_turns (rules_of settled p houses) (all_places houses)
-bound_of_rules settled p houses = listed-bound (setting_of settled p houses) houses refl refl
+    → (rules_of settled p houses).bound ≡ listed_visits (solo_n p) (all_places houses)
+bound_of_rules settled p houses = visits-listed (solo_n p) houses
 
 module _ (p : Solo) (ok : IsSolo p) where
   -- ---- the start

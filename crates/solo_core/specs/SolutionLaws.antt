@@ -7,6 +7,7 @@ use Rattle.engine_core.specs.PlaceLaws.{each_test, test_each}
 use Rattle.solo_core.specs.HouseLaws.{Lists, all_houses, each_house, lists_house}
 
 -- What a list without repeat is: its entries at different places differ.
+
 -- entries at different places differ
 pub different_from_no_repeat : (xs : List ℕ) → no_repeat xs ≡ true → (i j : ℕ) → i < j → j < length xs → get_or xs i 0 ≡ get_or xs j 0 → ⊥
 unfolding no_repeat
@@ -68,6 +69,7 @@ none_missing n f long holds small {w} lt = elim (cases_Bool (any_below (λ k. eq
 ]
 
 -- Laws of solutions: the test of a grid, house by house, is the rule.
+
 -- ---- a given stands
 pub given_from_test : (p : Solo) (g : List ℕ) (place : ℕ) → given_stands p g place ≡ true
     → 1 ≤ slice_index p.givens place → slice_index g place + 1 ≡ slice_index p.givens place

@@ -4,7 +4,6 @@
 ghost use Rattle.std.specs.Prelude.{◌≡◌, ◌≤◌, ◌++◌, IfOk, true, false, refl};
 ghost use Rattle.std.proofs.Common.{arith};
 ghost use Rattle.std.proofs.Props.{props};
-ghost use Rattle.engine_core.specs.declared.mode.Mode.TheVariants.{Queue};
 ghost use Rattle.engine_core.specs.HouseList.{all_places};
 ghost use Rattle.solo_core.specs.Common.{IsSolo, house_places};
 ghost use Rattle.solo_core.specs.RuleLaws.{listed_in_rules, bound_of_rules, singles_lawful, houses_lawful, crossings_lawful};
@@ -18,7 +17,7 @@ use crate::start::write_start;
 use crate::visits::crossing::keep_crossed;
 use crate::visits::houses::keep_houses;
 use crate::visits::singles::keep_singles;
-use engine_core::{HouseList, HouseRules, Mode, RuleSet};
+use engine_core::{HouseRules, RuleParts, RuleSet};
 use gameid_core::SoloPuzzle;
 use grid_core::{Board, Grid, Pairing};
 use std::alloc::{AllocError, Global};
@@ -62,8 +61,6 @@ impl RuleSet for Singles {
 
     const SETTLED: bool = false;
 
-    const MODE: Mode = Mode::Queue;
-
     ghost puzzle_of = { λ set. set.puzzle };
 
     ghost known = { IsSolo };
@@ -74,8 +71,6 @@ impl RuleSet for Singles {
 
     ghost SETTLED = { false };
 
-    ghost MODE = { Queue };
-
     ghost serves = { λ _ _. Unit {0} };
 
     ghost knows = { λ set. set.is_solo };
@@ -84,7 +79,7 @@ impl RuleSet for Singles {
 
     ghost settled_is = { λ _. refl };
 
-    ghost mode_is = { λ _. refl };
+    ghost by_queue = { λ _. refl };
 
     ghost scopes_are = { λ p. listed_in_rules false p (single_houses p) };
 
@@ -92,18 +87,15 @@ impl RuleSet for Singles {
 
     ghost serves_smaller = { λ _ _ _ _ served. served };
 
-    fn list(alloc: Global, puzzle: &SoloPuzzle) -> Result<(Singles, HouseList), AllocError> {
-        let list = list_houses(alloc, puzzle, 0)?;
-        let puzzle = puzzle.copy(alloc)?;
-        Ok((Singles { puzzle }, list))
-    }
-
-    fn cells(&self) -> usize {
-        cells(&self.puzzle)
-    }
-
-    fn values(&self) -> u8 {
-        self.puzzle.n()
+    fn parts(alloc: Global, puzzle: &SoloPuzzle) -> Result<RuleParts<Singles>, AllocError> {
+        Ok(RuleParts {
+            houses: list_houses(alloc, puzzle, 0)?,
+            cells: cells(puzzle),
+            values: puzzle.n(),
+            set: Singles {
+                puzzle: puzzle.copy(alloc)?,
+            },
+        })
     }
 
     fn start(&self, board: &mut Board) {
@@ -131,8 +123,6 @@ impl RuleSet for Fillings {
 
     const SETTLED: bool = true;
 
-    const MODE: Mode = Mode::Queue;
-
     ghost puzzle_of = { λ set. set.puzzle };
 
     ghost known = { IsSolo };
@@ -143,8 +133,6 @@ impl RuleSet for Fillings {
 
     ghost SETTLED = { true };
 
-    ghost MODE = { Queue };
-
     ghost serves = { λ pairing needs. needs.values ≤ pairing.room };
 
     ghost knows = { λ set. set.is_solo };
@@ -153,7 +141,7 @@ impl RuleSet for Fillings {
 
     ghost settled_is = { λ _. refl };
 
-    ghost mode_is = { λ _. refl };
+    ghost by_queue = { λ _. refl };
 
     ghost scopes_are = { λ p. listed_in_rules true p (filled_houses p) };
 
@@ -162,18 +150,15 @@ impl RuleSet for Fillings {
     ghost serves_smaller = { λ pairing need had fits served. let same = fits.same_values in
         Prim.omega arith };
 
-    fn list(alloc: Global, puzzle: &SoloPuzzle) -> Result<(Fillings, HouseList), AllocError> {
-        let list = list_houses(alloc, puzzle, 0)?;
-        let puzzle = puzzle.copy(alloc)?;
-        Ok((Fillings { puzzle }, list))
-    }
-
-    fn cells(&self) -> usize {
-        cells(&self.puzzle)
-    }
-
-    fn values(&self) -> u8 {
-        self.puzzle.n()
+    fn parts(alloc: Global, puzzle: &SoloPuzzle) -> Result<RuleParts<Fillings>, AllocError> {
+        Ok(RuleParts {
+            houses: list_houses(alloc, puzzle, 0)?,
+            cells: cells(puzzle),
+            values: puzzle.n(),
+            set: Fillings {
+                puzzle: puzzle.copy(alloc)?,
+            },
+        })
     }
 
     fn start(&self, board: &mut Board) {
@@ -204,8 +189,6 @@ impl RuleSet for Crossings {
 
     const SETTLED: bool = true;
 
-    const MODE: Mode = Mode::Queue;
-
     ghost puzzle_of = { λ set. set.puzzle };
 
     ghost known = { IsSolo };
@@ -216,8 +199,6 @@ impl RuleSet for Crossings {
 
     ghost SETTLED = { true };
 
-    ghost MODE = { Queue };
-
     ghost serves = { λ pairing needs. needs.values ≤ pairing.room };
 
     ghost knows = { λ set. set.is_solo };
@@ -226,7 +207,7 @@ impl RuleSet for Crossings {
 
     ghost settled_is = { λ _. refl };
 
-    ghost mode_is = { λ _. refl };
+    ghost by_queue = { λ _. refl };
 
     ghost scopes_are = { λ p. listed_in_rules true p (filled_houses p ++ crossings_of p) };
 
@@ -235,19 +216,17 @@ impl RuleSet for Crossings {
     ghost serves_smaller = { λ pairing need had fits served. let same = fits.same_values in
         Prim.omega arith };
 
-    fn list(alloc: Global, puzzle: &SoloPuzzle) -> Result<(Crossings, HouseList), AllocError> {
-        let mut list = list_houses(alloc, puzzle, crossings(puzzle))?;
-        push_crossings(&mut list, puzzle)?;
-        let puzzle = puzzle.copy(alloc)?;
-        Ok((Crossings { puzzle }, list))
-    }
-
-    fn cells(&self) -> usize {
-        cells(&self.puzzle)
-    }
-
-    fn values(&self) -> u8 {
-        self.puzzle.n()
+    fn parts(alloc: Global, puzzle: &SoloPuzzle) -> Result<RuleParts<Crossings>, AllocError> {
+        let mut houses = list_houses(alloc, puzzle, crossings(puzzle))?;
+        push_crossings(&mut houses, puzzle)?;
+        Ok(RuleParts {
+            houses,
+            cells: cells(puzzle),
+            values: puzzle.n(),
+            set: Crossings {
+                puzzle: puzzle.copy(alloc)?,
+            },
+        })
     }
 
     fn start(&self, board: &mut Board) {

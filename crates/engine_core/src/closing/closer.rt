@@ -132,7 +132,8 @@ impl<R: Rules> Closer<R> {
     /// Closes the board: at first each house waits.
     pub(crate) fn close(&mut self, rules: &R) -> Taken
         requires fits { FitsIn (needs_of (R.system rules.now)) self.old.made }
-        ensures closing { IsClosedFrom (R.system rules.now) (is_queue R.MODE) self.old result self.new }
+        ensures closing { IsClosedFrom (R.system rules.now) (is_queue R.MODE) self.old result
+            self.new }
         ensures room { SameRoom self.old self.new }
     {
         if self.board.has_empty_cell() {
@@ -169,7 +170,8 @@ impl<R: Rules> Closer<R> {
         requires alive { IsAlive (R.system rules.now) (has self.old.board) }
         requires rested { IsRested (R.system rules.now) (has self.old.board)
             (is_waiting self.old.waits) }
-        ensures closing { IsClosedFrom (R.system rules.now) (is_queue R.MODE) self.old result self.new }
+        ensures closing { IsClosedFrom (R.system rules.now) (is_queue R.MODE) self.old result
+            self.new }
         ensures room { SameRoom self.old self.new }
     {
         let by_queue = by_queue::<R>();

@@ -74,6 +74,13 @@ impl HouseTable {
         Ok(HouseTable { cells, list, marks })
     }
 
+    /// How many cells the board has.
+    pub(crate) fn cells(&self) -> usize
+        ensures { result ≡ self.now.cells }
+    {
+        self.cells
+    }
+
     /// The marks of the houses that have the place.
     pub(crate) fn marks_at(&self, place: usize) -> &[u64]
         requires { place < self.now.cells }

@@ -1,15 +1,16 @@
 //! A board of sets with its trail, as a position.
 #![tactic(auto, using(crate::proofs::LawSets::position_laws))]
 
-ghost use Rattle.std.specs.Prelude.{◌<◌, ◌≡◌, ◌≤◌, ◌+◌, IfOk, IfSome, false, length};
-ghost use Rattle.engine_core.specs.Common.{cells_of, max_cells, max_values, IsTrailUnderWay, standing_of, words_of, has, IsAlive, IsClosedIn, HasSetRoom, IsFiltered, IsTaken, needs_of, IsBoardOf, StillServes, IsAlong, AreHousesRested, GoesOn, IsStep, board_in, AreRestedBut, AreWokenSince};
+ghost use Rattle.std.specs.Prelude.{◌<◌, ◌≡◌, ◌≤◌, ◌+◌, IfOk, IfSome, length};
+ghost use Rattle.engine_core.specs.Common.{cells_of, max_cells, max_values, IsTrailUnderWay, standing_of, words_of, IsAlive, IsClosedIn, IsTaken, IsBoardOf, IsAlong, AreHousesRested, GoesOn, IsStep, board_in, AreRestedBut, AreWokenSince};
 
+use crate::house_rules::HouseRules;
 use crate::mode::{Closing, Taken};
 use crate::needs::{Needs, needs_for};
-use crate::rules::by_queue;
+use crate::rule_set::RuleSet;
+use crate::rules::Rules;
 use crate::search::position::Position;
 use crate::trail::cells::{better_cell, write_grid};
-use crate::trail::propagators::Propagators;
 use crate::trail::trailed::TrailedBoard;
 use crate::waits::{dequeue, dequeue_if, next_around};
 use grid_core::{Board, Fixed, Grid};
@@ -17,10 +18,11 @@ use std::alloc::{AllocError, Global};
 use std::marker::Model;
 
 /// Marks the houses that a closing begins with: those that have the place, or where none is named all.
-fn wait_from<R: Propagators>(rules: &R, from: Option<usize>, waits: &mut [u64])
-    requires place_in { IfSome from (λ place. place < (R.system rules.now).cells) }
-    requires room { words_of (R.system rules.now).houses ≤ length waits.old }
-    ensures { AreRestedBut (R.system rules.now) from waits.new }
+fn wait_from<S: RuleSet>(rules: &HouseRules<S>, from: Option<usize>, waits: &mut [u64])
+    requires place_in { IfSome from (λ place. place
+        < (S.system (S.puzzle_of rules.now.set)).cells) }
+    requires room { words_of (S.system (S.puzzle_of rules.now.set)).houses ≤ length waits.old }
+    ensures { AreRestedBut (S.system (S.puzzle_of rules.now.set)) from waits.new }
 {
     match from {
         None => waits.fill(u64::MAX),
@@ -32,48 +34,29 @@ fn wait_from<R: Propagators>(rules: &R, from: Option<usize>, waits: &mut [u64])
 }
 
 /// Marks the houses of each cell that the trail names from the number `from` on.
-fn wake_since<R: Propagators>(rules: &R, trailed: &TrailedBoard, from: usize, waits: &mut [u64])
-    requires board_of { IsBoardOf (R.system rules.now) trailed.now.board }
+fn wake_since<S: RuleSet>(
+    rules: &HouseRules<S>,
+    trailed: &TrailedBoard,
+    from: usize,
+    waits: &mut [u64],
+)
+    requires board_of { IsBoardOf (S.system (S.puzzle_of rules.now.set)) trailed.now.board }
     requires from_in { from ≤ trailed.now.len }
-    requires room { words_of (R.system rules.now).houses ≤ length waits.old }
-    ensures { AreWokenSince (R.system rules.now) trailed.now from waits.old waits.new }
+    requires room { words_of (S.system (S.puzzle_of rules.now.set)).houses ≤ length waits.old }
+    ensures { AreWokenSince (S.system (S.puzzle_of rules.now.set)) trailed.now from
+        waits.old waits.new }
 {
     for number in from..trailed.len() {
         rules.wake(trailed.changed(number), waits);
     }
 }
 
-/// Reads the sets of the house's cells, and decides what a visit keeps of them, at the head of the two slices. Says whether
-/// anything may be struck.
-fn filter_house<R: Propagators>(
-    rules: &R,
-    house: usize,
-    board: &Board,
-    scratch: &mut R::Scratch,
-    sets: &mut [u32],
-    kept: &mut [u32],
-) -> bool
-    requires house_in { house < (R.system rules.now).houses }
-    requires board_of { IsBoardOf (R.system rules.now) board.now }
-    requires served { R.serves scratch.old (needs_of (R.system rules.now)) }
-    requires sets_room { HasSetRoom (R.system rules.now) house sets.old }
-    requires kept_room { HasSetRoom (R.system rules.now) house kept.old }
-    ensures filtered { IsFiltered (R.system rules.now) house (has board.now) result
-        sets.new kept.new }
-    ensures keeps { StillServes R.serves scratch.old scratch.new }
-{
-    let cells = rules.scope_len(house);
-    let (sets, kept) = (&mut sets[..cells], &mut kept[..cells]);
-    rules.read(house, board, sets);
-    rules.filter(house, sets, kept, scratch)
-}
-
 /// A board with its trail. With it go what the rules work in, room for the sets of a house's cells and for what is kept of
 /// them, a mark for each house that waits, and one for each that is to come first.
 #[derive(Drop)]
-pub struct TrailPosition<R: Propagators> {
+pub struct TrailPosition<S: RuleSet> {
     made: Needs,
-    scratch: R::Scratch,
+    work: S::Scratch,
     sets: Fixed<u32>,
     kept: Fixed<u32>,
     waits: Fixed<u64>,
@@ -81,7 +64,7 @@ pub struct TrailPosition<R: Propagators> {
     trailed: TrailedBoard,
 }
 
-impl<R: Propagators> Model for TrailPosition<R> {
+impl<S: RuleSet> Model for TrailPosition<S> {
     ghost use Rattle.engine_core.specs.Common.{needs_in, Placed, IsPlaced};
 
     ghost Value = { Placed };
@@ -93,24 +76,25 @@ impl<R: Propagators> Model for TrailPosition<R> {
     } };
 
     ghost invariant = { λ s. IsPlaced (needs_in s.made) s.trailed.board s.sets.items s.kept.items
-        s.waits.items s.first.items × R.serves s.scratch (needs_in s.made) };
+        s.waits.items s.first.items × S.serves s.work (needs_in s.made) };
 }
 
-impl<R: Propagators> TrailPosition<R> {
+impl<S: RuleSet> TrailPosition<S> {
     /// Visits the house, and marks the houses of each cell that lost a value in place of the house. Says whether the visit
     /// would leave a cell without a value: then what it left is open.
-    fn step(&mut self, rules: &R, house: usize) -> bool
-        requires along { IsAlong (R.system rules.now) self.old }
-        requires alive { IsAlive (R.system rules.now) (board_in self.old) }
-        requires house_in { house < (R.system rules.now).houses }
-        ensures step { IsStep (R.system rules.now) house self.old self.new result }
-        ensures along { IsAlong (R.system rules.now) self.new }
+    fn step(&mut self, rules: &HouseRules<S>, house: usize) -> bool
+        requires along { IsAlong (S.system (S.puzzle_of rules.now.set)) self.old }
+        requires alive { IsAlive (S.system (S.puzzle_of rules.now.set)) (board_in self.old) }
+        requires house_in { house < (S.system (S.puzzle_of rules.now.set)).houses }
+        ensures step { IsStep (S.system (S.puzzle_of rules.now.set)) house self.old self.new
+            result }
+        ensures along { IsAlong (S.system (S.puzzle_of rules.now.set)) self.new }
         ensures onward { GoesOn self.old self.new }
     {
         dequeue(&mut self.waits, house);
         let board = self.trailed.board();
         let (sets, kept) = (&mut self.sets, &mut self.kept);
-        if !filter_house(rules, house, board, &mut self.scratch, sets, kept) {
+        if !rules.filter(house, board, sets, kept, &mut self.work) {
             return false;
         }
         let before = self.trailed.len();
@@ -121,19 +105,24 @@ impl<R: Propagators> TrailPosition<R> {
         }
         let waits: &mut [u64] = &mut self.waits;
         wake_since(rules, &self.trailed, before, waits);
-        dequeue_if(waits, house, R::SETTLED);
+        dequeue_if(waits, house, S::SETTLED);
         false
     }
 
     /// Where to go on after a visit of the house: at the house after it, or at one in which a cell has got its last value, if
     /// these come first. Marks those of this visit, which noted its changes from the number `before` on.
-    fn next_from(&mut self, rules: &R, house: usize, before: usize, singles_first: bool) -> usize
-        requires along { IsAlong (R.system rules.now) self.old }
-        requires house_in { house < (R.system rules.now).houses }
+    fn next_from(
+        &mut self,
+        rules: &HouseRules<S>,
+        house: usize,
+        before: usize,
+        singles_first: bool,
+    ) -> usize
+        requires along { IsAlong (S.system (S.puzzle_of rules.now.set)) self.old }
+        requires house_in { house < (S.system (S.puzzle_of rules.now.set)).houses }
         requires before_in { before ≤ self.old.trail.len }
         ensures same { self.new ≡ self.old }
-        ensures within { result ≤ (R.system rules.now).houses }
-        ensures in_turn { singles_first ≡ false → result ≡ house + 1 }
+        ensures within { result ≤ (S.system (S.puzzle_of rules.now.set)).houses }
     {
         let houses = rules.houses();
         if !singles_first {
@@ -152,24 +141,23 @@ impl<R: Propagators> TrailPosition<R> {
     }
 
     /// Closes the board: goes around over the houses that wait and visits each, until none waits or a cell has no value. After
-    /// the last house it begins again. Of a queue each visit counts, and else each sweep, also one that stops. At first each
-    /// house waits that strikes anything; it may be more. Of a queue houses in which a cell gets its last value can come first.
-    fn run(&mut self, rules: &R, singles_first: bool) -> Taken
-        requires along { IsAlong (R.system rules.now) self.old }
-        requires alive { IsAlive (R.system rules.now) (board_in self.old) }
-        requires rested { AreHousesRested (R.system rules.now) self.old }
-        requires queue { (R.system rules.now).by_queue ≡ false → singles_first ≡ false }
-        ensures taken { IsTaken (R.system rules.now) (board_in self.old) (board_in self.new)
-            result.closing }
-        ensures turns { IsClosedIn (R.system rules.now) (board_in self.old) result.turns }
-        ensures along { IsAlong (R.system rules.now) self.new }
+    /// the last house it begins again. At first each house waits that strikes anything; it may be more. Houses in which a cell
+    /// gets its last value can come first.
+    fn run(&mut self, rules: &HouseRules<S>, singles_first: bool) -> Taken
+        requires along { IsAlong (S.system (S.puzzle_of rules.now.set)) self.old }
+        requires alive { IsAlive (S.system (S.puzzle_of rules.now.set)) (board_in self.old) }
+        requires rested { AreHousesRested (S.system (S.puzzle_of rules.now.set)) self.old }
+        ensures taken { IsTaken (S.system (S.puzzle_of rules.now.set)) (board_in self.old)
+            (board_in self.new) result.closing }
+        ensures turns { IsClosedIn (S.system (S.puzzle_of rules.now.set)) (board_in self.old)
+            result.turns }
+        ensures along { IsAlong (S.system (S.puzzle_of rules.now.set)) self.new }
         ensures onward { GoesOn self.old self.new }
     {
-        let by_queue = by_queue::<R>();
-        let mut turns = usize::from(!by_queue);
+        let mut turns = 0;
         let mut from = 0;
         while let Some(house) = next_around(&self.waits, from, rules.houses()) {
-            turns += usize::from(by_queue | (house < from));
+            turns += 1;
             let before = self.trailed.len();
             if self.step(rules, house) {
                 return Taken {
@@ -186,18 +174,18 @@ impl<R: Propagators> TrailPosition<R> {
     }
 }
 
-impl<R: Propagators> Position<R> for TrailPosition<R> {
+impl<S: RuleSet> Position<HouseRules<S>> for TrailPosition<S> {
     ghost stands = { λ s. standing_of s };
 
     ghost room = { λ s. record { needs = s.made; trail = length s.trail.changes } };
 
-    ghost walks = { λ rules s. IsTrailUnderWay (R.system rules) s };
+    ghost walks = { λ rules s. IsTrailUnderWay (S.system (S.puzzle_of rules.set)) s };
 
-    fn new(alloc: Global, rules: &R) -> Result<TrailPosition<R>, AllocError> {
+    fn new(alloc: Global, rules: &HouseRules<S>) -> Result<TrailPosition<S>, AllocError> {
         let made = needs_for(rules);
         Ok(TrailPosition {
             made,
-            scratch: rules.scratch(alloc)?,
+            work: rules.set.scratch(alloc)?,
             sets: Fixed::copies(alloc, 0u32, made.scope)?,
             kept: Fixed::copies(alloc, 0u32, made.scope)?,
             waits: Fixed::copies(alloc, 0u64, made.houses / 64 + 1)?,
@@ -214,11 +202,11 @@ impl<R: Propagators> Position<R> for TrailPosition<R> {
         self.trailed.len()
     }
 
-    fn begin(&mut self, rules: &R) {
+    fn begin(&mut self, rules: &HouseRules<S>) {
         self.trailed.start(rules);
     }
 
-    fn close(&mut self, rules: &R, from: Option<usize>) -> Taken {
+    fn close(&mut self, rules: &HouseRules<S>, from: Option<usize>) -> Taken {
         if from.is_none() && self.trailed.board().has_empty_cell() {
             return Taken {
                 closing: Closing::Dead,
@@ -227,10 +215,10 @@ impl<R: Propagators> Position<R> for TrailPosition<R> {
         }
         self.first.fill(0);
         wait_from(rules, from, &mut self.waits);
-        self.run(rules, by_queue::<R>() & from.is_some())
+        self.run(rules, from.is_some())
     }
 
-    fn pick(&self, rules: &R, from: usize) -> Option<usize> {
+    fn pick(&self, rules: &HouseRules<S>, from: usize) -> Option<usize> {
         let board = self.trailed.board();
         let mut best = None;
         for cell in from..rules.cells() {
@@ -242,7 +230,7 @@ impl<R: Propagators> Position<R> for TrailPosition<R> {
         best
     }
 
-    fn next_value(&self, rules: &R, cell: usize, from: u8) -> Option<u8> {
+    fn next_value(&self, rules: &HouseRules<S>, cell: usize, from: u8) -> Option<u8> {
         let board = self.trailed.board();
         for value in from..rules.values() {
             if board.has(cell, value) {
@@ -252,18 +240,18 @@ impl<R: Propagators> Position<R> for TrailPosition<R> {
         None
     }
 
-    fn leave(&mut self, rules: &R, cell: usize, value: u8) {
+    fn leave(&mut self, rules: &HouseRules<S>, cell: usize, value: u8) {
         let before = self.trailed.board().bits(cell);
         self.trailed.leave(rules, cell, before, 1 << value);
     }
 
-    fn undo(&mut self, _rules: &R, mark: usize) {
+    fn undo(&mut self, _rules: &HouseRules<S>, mark: usize) {
         self.trailed.undo(mark);
     }
 
-    fn accept(&mut self, rules: &R, grid: &mut Grid) -> bool {
+    fn accept(&mut self, rules: &HouseRules<S>, grid: &mut Grid) -> bool {
         write_grid(self.trailed.board(), rules.cells(), grid);
-        rules.completes(&mut self.scratch, grid)
+        rules.set.completes(&mut self.work, grid)
     }
 
     ghost inside = { λ rules s walks. walks.inside };

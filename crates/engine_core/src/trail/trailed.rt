@@ -4,7 +4,7 @@
 ghost use Rattle.std.specs.Prelude.{◌≡◌, ◌≢◌, ℕ, ◌+◌, ◌*◌, ◌<◌, ◌≤◌, IfOk, bit_and, length, true, false};
 ghost use Rattle.engine_core.specs.Common.{has, cells_of, SameShape, count_below, only, max_cells, max_values, IsAlive, IsDeadAfter, KeepsChanges, AreSetsOf, IsKept, IsBoardOf, after, IsBitsOf, back_at, change_at, left_by, IsTrailLonger, IsTrailBack, IsStruck};
 
-use crate::trail::propagators::Propagators;
+use crate::rules::Rules;
 use grid_core::{Board, Fixed};
 use std::alloc::{AllocError, Global};
 use std::marker::Model;
@@ -73,7 +73,7 @@ impl TrailedBoard {
     }
 
     /// Begins with the board that a search starts from.
-    pub(crate) fn start<R: Propagators>(&mut self, rules: &R)
+    pub(crate) fn start<R: Rules>(&mut self, rules: &R)
         requires board_of { IsBoardOf (R.system rules.now) self.old.board }
         ensures start { has self.new.board ≡ (R.system rules.now).start }
         ensures here { back_at self.new 0 ≡ has self.new.board }
@@ -86,7 +86,7 @@ impl TrailedBoard {
 
     /// Leaves of each cell of the house what is kept of its set, and notes what those had that lost a value. Says whether one
     /// would lose its last: it stops there.
-    pub(crate) fn strike<R: Propagators>(
+    pub(crate) fn strike<R: Rules>(
         &mut self,
         rules: &R,
         house: usize,
@@ -116,7 +116,7 @@ impl TrailedBoard {
     }
 
     /// Leaves no more than `left` of the cell's set, and notes what it had, which was more.
-    pub(crate) fn leave<R: Propagators>(&mut self, rules: &R, place: usize, before: u32, left: u32)
+    pub(crate) fn leave<R: Rules>(&mut self, rules: &R, place: usize, before: u32, left: u32)
         requires board_of { IsBoardOf (R.system rules.now) self.old.board }
         requires place_in { place < (R.system rules.now).cells }
         requires before { IsBitsOf (has self.old.board place) (R.system rules.now).values before }

@@ -3,7 +3,7 @@
 ghost use Rattle.std.specs.Prelude.{◌≤◌, length, slice_index};
 ghost use Rattle.grid_core.specs.Candidates.{max_values};
 ghost use Rattle.solo_core.specs.Bits.{has_in};
-ghost use Rattle.solo_core.specs.Peeled.{AreCellsOf};
+ghost use Rattle.solo_core.specs.PeeledHouses.{AreCellsOf};
 
 use crate::visits::bits::next_bit;
 use grid_core::Edges;

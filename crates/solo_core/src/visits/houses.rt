@@ -3,7 +3,7 @@
 ghost use Rattle.std.specs.Prelude.{◌≡◌, ℕ, ◌<◌, ◌≤◌, ◌&&◌, false, length, true};
 ghost use Rattle.grid_core.specs.Candidates.{max_values};
 ghost use Rattle.solo_core.specs.Common.{has_bit as is_set, has_in};
-ghost use Rattle.solo_core.specs.Peeled.{AreLone, IsPaired, IsRest, KeepsFillings, KeepsOthers, KeepsReaching};
+ghost use Rattle.solo_core.specs.PeeledHouses.{AreLone, IsPaired, IsRest, KeepsFillings, KeepsOthers, KeepsReaching};
 
 use crate::visits::bits::{next_bit, others_below, with_bit_if};
 use crate::visits::mates::{MANY, pair_rest, write_rest};

@@ -2,7 +2,7 @@
 
 ghost use Rattle.std.specs.Prelude.{◌≡◌, ◌≤◌, length, take};
 ghost use Rattle.grid_core.specs.Candidates.{max_values};
-ghost use Rattle.solo_core.specs.Peeled.{IsPaired, IsShort, meets, rest_of, AreCellsOf};
+ghost use Rattle.solo_core.specs.PeeledHouses.{IsPaired, IsShort, meets, rest_of, AreCellsOf};
 
 use crate::visits::graph::CellValueGraph;
 use crate::visits::quick::pair_quickly;

@@ -4,7 +4,7 @@
 ghost use Rattle.std.specs.Prelude.{◌≡◌, ℕ, ◌≤◌, ◌&&◌, ◌||◌, true, length};
 ghost use Rattle.grid_core.specs.Candidates.{max_values};
 ghost use Rattle.engine_core.specs.Sets.{has_bit as is_set};
-ghost use Rattle.solo_core.specs.Peeled.{IsPeeled, AreLone, AreWhole, AreAllCounts, AreSettled, IsRest, KeepsOthers, AddsSingle, AddsShared, AreDropped, is_lone};
+ghost use Rattle.solo_core.specs.PeeledHouses.{IsPeeled, AreLone, AreWhole, AreAllCounts, AreSettled, IsRest, KeepsOthers, AddsSingle, AddsShared, AreDropped, is_lone};
 
 use crate::visits::bits::others_below;
 

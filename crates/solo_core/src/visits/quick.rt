@@ -2,7 +2,7 @@
 #![tactic(auto, using(crate::proofs::LawSets::quick_laws))]
 
 ghost use Rattle.std.specs.Prelude.{◌≡◌, ◌<◌, true, length};
-ghost use Rattle.solo_core.specs.Quick.{AllPaired, FirstPaired, OneMorePaired};
+ghost use Rattle.solo_core.specs.QuickPairings.{AllPaired, FirstPaired, OneMorePaired};
 
 use crate::visits::bits::{all_below, next_bit, with_bit};
 use crate::visits::graph::CellValueGraph;

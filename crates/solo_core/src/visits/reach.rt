@@ -3,7 +3,7 @@
 
 ghost use Rattle.std.specs.Prelude.{◌≡◌, ◌<◌, ◌≤◌, length};
 ghost use Rattle.solo_core.specs.Common.{AreDifferent, has_bit as is_set, has_in};
-ghost use Rattle.solo_core.specs.Peeled.{AreCellsOf, KeepsOthers, LeadByMates};
+ghost use Rattle.solo_core.specs.PeeledHouses.{AreCellsOf, KeepsOthers, LeadByMates};
 ghost use Rattle.solo_core.specs.Ways.{IsTransitiveClosure, LeadsOver};
 
 use crate::visits::bits::with_more_if;

@@ -4,7 +4,7 @@
 ghost use Rattle.std.specs.Prelude.{◌≡◌, ◌<◌, ◌≤◌, true, length};
 ghost use Rattle.grid_core.specs.Candidates.{max_values};
 ghost use Rattle.solo_core.specs.Common.{has_in};
-ghost use Rattle.solo_core.specs.Peeled.{AreCellsOf};
+ghost use Rattle.solo_core.specs.PeeledHouses.{AreCellsOf};
 ghost use Rattle.solo_core.specs.Ways.{ComesAfter, ComesBefore, LiesOnRounds, StaysBefore};
 
 use crate::visits::bits::{next_bit, with_bit, with_bit_if};

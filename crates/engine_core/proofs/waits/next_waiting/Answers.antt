@@ -1,5 +1,5 @@
 use Rattle.engine_core.proofs.Common.{arith, slice_index}
-use Rattle.engine_core.proofs.IndexLemmas.{lowest_left, none_left, none_so_far, waits_in_word}
+use Rattle.engine_core.proofs.MarkLemmas.{lowest_left, none_left, none_so_far, waits_in_word}
 use Rattle.engine_core.proofs.waits.next_waiting.Goals as goal
 
 pub returns-then-house-houses : goal.returns-then-house-houses

@@ -1,6 +1,6 @@
 use Rattle.engine_core.proofs.Common.{arith, length, replicate, rules, ◌≡◌}
 use Rattle.engine_core.proofs.QueueLemmas.{woken-by}
-use Rattle.engine_core.proofs.IndexLemmas.{waiting-all}
+use Rattle.engine_core.proofs.MarkLemmas.{waiting-all}
 use Rattle.engine_core.proofs.closing.marking.mark_after.Goals as goal
 
 pub returns-then-not-by_queue-clause-sweeps : goal.returns-then-not-by_queue-clause-sweeps

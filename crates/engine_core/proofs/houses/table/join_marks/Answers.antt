@@ -1,5 +1,5 @@
 use Rattle.engine_core.proofs.Common.{arith, length-set, ◌∙◌}
-use Rattle.engine_core.proofs.IndexLemmas.{joined-more}
+use Rattle.engine_core.proofs.MarkLemmas.{joined-more}
 use Rattle.engine_core.proofs.houses.table.join_marks.Goals as goal
 
 pub loop-word-preserved : goal.loop-word-preserved

@@ -1,5 +1,5 @@
 use Rattle.engine_core.proofs.Common.{arith, length, length-set, refl, take-length, ◌∙◌, ◌≡◌}
-use Rattle.engine_core.proofs.IndexLemmas.{mark-first, mark-more}
+use Rattle.engine_core.proofs.MarkLemmas.{mark-first, mark-more}
 use Rattle.engine_core.proofs.houses.table.mark_house.Goals as goal
 
 pub loop-k-init : goal.loop-k-init

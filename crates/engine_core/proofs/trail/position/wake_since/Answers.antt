@@ -5,13 +5,13 @@ use Rattle.engine_core.proofs.trail.position.wake_since.Goals as goal
 
 pub loop-number-init : goal.loop-number-init
 loop-number-init g c =
-    let p = g.R.Rules.system c.args.rules.now in
+    let p = g.S.RuleSet.system (g.S.RuleSet.puzzle_of c.args.rules.now.set) in
     let t = c.args.trailed.now in
     woken-by_none (λ j lt. since-first (λ m. has_place (p.scope j) (change_at t.changes m).0) c.args.from)
 
 pub loop-number-preserved : goal.loop-number-preserved
 loop-number-preserved g c =
-    let p = g.R.Rules.system c.args.rules.now in
+    let p = g.S.RuleSet.system (g.S.RuleSet.puzzle_of c.args.rules.now.set) in
     let t = c.args.trailed.now in
     let le : c.args.from ≤ c.loop-number.number = omega arith in
     since-woken p t le c.loop-number.invariant

@@ -1,5 +1,5 @@
 use Rattle.std.proofs.Common.{arith}
-use Rattle.solo_core.proofs.Marks.{bit_if}
+use Rattle.solo_core.proofs.BitLemmas.{bit_if}
 use Rattle.solo_core.proofs.visits.bits.with_bit_if.Goals as goal
 
 pub returns : goal.returns

@@ -1,6 +1,6 @@
 use Rattle.std.proofs.Common.{refl, rules}
 use Rattle.solo_core.proofs.MateLemmas.{no_pairing}
-use Rattle.solo_core.proofs.Turned.{decided_by_none}
+use Rattle.solo_core.proofs.TurnLemmas.{decided_by_none}
 use Rattle.solo_core.proofs.visits.houses.keep_others.Goals as goal
 
 pub returns-in-Short-clause-decided : goal.returns-in-Short-clause-decided

@@ -1,5 +1,5 @@
 use Rattle.solo_core.proofs.Common.{IsOutside, IsTransitiveClosure, LiesOnRounds, arith, has_in, length, length-take, lt-ltb, refl, slice_index, subst, ℕ, ◌∙◌, ◌≡◌}
-use Rattle.solo_core.proofs.Turned.{no_leads, rest_on_rounds, rest_reached}
+use Rattle.solo_core.proofs.TurnLemmas.{no_leads, rest_on_rounds, rest_reached}
 use Rattle.solo_core.proofs.visits.houses.keep_paired.Goals as goal
 use Rattle.solo_core.proofs.visits.houses.keep_paired.Goals.{After-write_leads}
 

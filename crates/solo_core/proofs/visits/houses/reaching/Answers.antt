@@ -1,5 +1,5 @@
 use Rattle.solo_core.proofs.Common.{arith, sym, zero-bits}
-use Rattle.solo_core.proofs.Marks.{next_kept, all_kept}
+use Rattle.solo_core.proofs.BitLemmas.{next_kept, all_kept}
 use Rattle.solo_core.proofs.visits.houses.reaching.Goals as goal
 
 pub loop-value-init : goal.loop-value-init

@@ -1,5 +1,5 @@
 use Rattle.solo_core.proofs.Common.{has_bit, has_in, ◌-◌, ◌≤◌}
-use Rattle.solo_core.proofs.Marks.{AreKept}
+use Rattle.solo_core.proofs.BitLemmas.{AreKept}
 use Rattle.solo_core.proofs.visits.houses.reaching.Given as goal
 
 abbrev pub invariant-loop-value : goal.invariant-loop-value

@@ -1,5 +1,5 @@
 use Rattle.solo_core.proofs.Common.{and_le_r, ap, arith, bit_and, both-bits, false, has_bit, inl, inr, ltb, nat_tests, not, sym, true, true≢false, ℕ, ◌&&◌, ◌<◌, ◌^◌, ◌∙◌, ◌≡◌}
-use Rattle.solo_core.proofs.Marks.{some_set}
+use Rattle.solo_core.proofs.BitLemmas.{some_set}
 use Rattle.solo_core.proofs.visits.peel.narrow.Goals as goal
 
 -- of the bits of a set that are values and not outside: where one is there, and where none is

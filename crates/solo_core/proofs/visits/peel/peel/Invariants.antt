@@ -1,4 +1,4 @@
-use Rattle.solo_core.specs.Peeled.{AreAllCounts, AreSettled, IsPeeled, IsRest}
+use Rattle.solo_core.specs.PeeledHouses.{AreAllCounts, AreSettled, IsPeeled, IsRest}
 use Rattle.solo_core.proofs.visits.peel.peel.Given as goal
 
 abbrev pub invariant-loop-turn : goal.invariant-loop-turn

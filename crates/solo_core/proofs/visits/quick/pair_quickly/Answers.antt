@@ -1,5 +1,5 @@
 use Rattle.solo_core.proofs.Common.{arith, nat_tests, ℕ, ◌∙◌}
-use Rattle.solo_core.proofs.Marks.{bits-without}
+use Rattle.solo_core.proofs.BitLemmas.{bits-without}
 use Rattle.solo_core.proofs.visits.quick.pair_quickly.Goals as goal
 
 pub loop-i-preserved : goal.loop-i-preserved

@@ -1,5 +1,5 @@
 use Rattle.solo_core.proofs.Common.{arith, has_in, slice_index}
-use Rattle.solo_core.proofs.Marks.{over_alone}
+use Rattle.solo_core.proofs.BitLemmas.{over_alone}
 use Rattle.solo_core.proofs.visits.reach.reach_over.Goals as goal
 
 pub returns-then-more-over-clause-bits : goal.returns-then-more-over-clause-bits

@@ -1,6 +1,6 @@
 use Rattle.solo_core.proofs.Common.{arith, nat_tests, refl, zero-bits, ◌∙◌}
 use Rattle.solo_core.proofs.CrossingLemmas.{any-more, any-none}
-use Rattle.solo_core.proofs.Marks.{bit_alone}
+use Rattle.solo_core.proofs.BitLemmas.{bit_alone}
 use Rattle.solo_core.proofs.visits.singles.beside.Goals as goal
 
 pub loop-value-init : goal.loop-value-init

@@ -1,5 +1,5 @@
 use Rattle.solo_core.proofs.Common.{arith, both-bits, or_lt, slice_index}
-use Rattle.solo_core.proofs.Turned.{after-root, after-step, all_inside}
+use Rattle.solo_core.proofs.TurnLemmas.{after-root, after-step, all_inside}
 use Rattle.solo_core.proofs.visits.turning.come_after.Goals as goal
 
 pub loop-step-init : goal.loop-step-init

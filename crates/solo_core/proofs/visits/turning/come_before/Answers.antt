@@ -1,5 +1,5 @@
 use Rattle.std.proofs.Common.{arith}
-use Rattle.solo_core.proofs.Turned.{before-root, all_inside}
+use Rattle.solo_core.proofs.TurnLemmas.{before-root, all_inside}
 use Rattle.solo_core.proofs.visits.turning.come_before.Goals as goal
 
 pub loop-turn-init : goal.loop-turn-init

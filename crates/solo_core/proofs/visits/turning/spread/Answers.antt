@@ -1,5 +1,5 @@
 use Rattle.std.proofs.Common.{arith}
-use Rattle.solo_core.proofs.Turned.{before-step}
+use Rattle.solo_core.proofs.TurnLemmas.{before-step}
 use Rattle.solo_core.proofs.visits.turning.spread.Goals as goal
 
 pub loop-i-preserved : goal.loop-i-preserved

@@ -1,7 +1,7 @@
 use Rattle.engine_core.proofs.Common.{IsBoardOf, IsRested, arith, common_steps, drop, has, is_waiting, length, length-replicate, replicate, sym, take, true≢false, vec_len, ◌++◌, ◌∙◌, ◌≡◌}
 use Rattle.engine_core.proofs.AroundLemmas.{closed-none}
 use Rattle.engine_core.proofs.QueueLemmas.{dead_of, within_of}
-use Rattle.engine_core.proofs.IndexLemmas.{waiting-all}
+use Rattle.engine_core.proofs.MarkLemmas.{waiting-all}
 use Rattle.engine_core.proofs.closing.closer.Closer.close.Goals as goal
 use Rattle.engine_core.proofs.closing.closer.Closer.close.Goals.{After-fill}
 

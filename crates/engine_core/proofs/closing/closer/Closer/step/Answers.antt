@@ -2,7 +2,7 @@ use Rattle.engine_core.proofs.Common.{IsInside, ap, arith, drop, has, is_dead, i
 use Rattle.engine_core.proofs.QueueLemmas.{emptied-dead, unwoken, woken-unstruck}
 use Rattle.engine_core.proofs.ClosingLemmas.{after_inside}
 use Rattle.engine_core.proofs.JudgeLemmas.{scope_le-longest}
-use Rattle.engine_core.proofs.IndexLemmas.{written-back}
+use Rattle.engine_core.proofs.MarkLemmas.{written-back}
 use Rattle.engine_core.proofs.closing.closer.Closer.step.Goals as goal
 
 pub read_head-requires-clause-room : goal.read_head-requires-clause-room

@@ -1,4 +1,4 @@
-use Rattle.engine_core.proofs.IndexLemmas.{marks-at}
+use Rattle.engine_core.proofs.MarkLemmas.{marks-at}
 use Rattle.engine_core.proofs.houses.table.HouseTable.marks_at.Goals as goal
 
 pub returns : goal.returns

@@ -1,5 +1,5 @@
 use Rattle.engine_core.proofs.Common.{Table, ap, length, ◌∙◌}
-use Rattle.engine_core.proofs.IndexLemmas.{next-marked}
+use Rattle.engine_core.proofs.MarkLemmas.{next-marked}
 use Rattle.engine_core.proofs.houses.table.HouseTable.next_at.Goals as goal
 
 pub returns : goal.returns

@@ -1,6 +1,6 @@
 use Rattle.std.proofs.Common.{mul-le-mul_right}
 use Rattle.engine_core.proofs.Common.{ap, arith, get_or-replicate, length, refl, slice_index, words_of, ◌*◌, ◌+◌, ◌/◌, ◌∙◌, ◌≡◌}
-use Rattle.engine_core.proofs.IndexLemmas.{marked-first}
+use Rattle.engine_core.proofs.MarkLemmas.{marked-first}
 use Rattle.engine_core.proofs.houses.table.HouseTable.of.Goals as goal
 
 pub loop-house-init : goal.loop-house-init

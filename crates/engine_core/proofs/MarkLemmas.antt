@@ -3,6 +3,7 @@ use Rattle.engine_core.proofs.Common.{AreDifferent, AreMarked, AreMarksAt, Bool,
 use Rattle.std.proofs.Common.{mul-le-mul_right}
 
 -- Marks of houses as the bits of words.
+
 -- words that are written back whole
 pub written-back : (n : ℕ) (words rest : List ℕ) → n ≡ length words → take n (words ++ rest) ≡ words
 written-back n words rest e = rw e (take-append_seam words rest)
@@ -113,6 +114,7 @@ waits_in_word waits w {b} lt on =
     let bit : (w * 64 + b) % 64 ≡ b = omega arith in word-is waits w _ (omega arith) ∙ ap (has_bit (get_or waits w 0)) bit ∙ on
 
 -- Laws of counts, and of the marks of houses place by place.
+
 -- ---- counts as they go on
 pub count_below-more : (p : ℕ → Bool) (m n : ℕ) → m ≤ n → count_below p m ≤ count_below p n
 unfolding count_below

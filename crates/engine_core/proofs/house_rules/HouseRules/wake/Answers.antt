@@ -1,6 +1,6 @@
 use Rattle.engine_core.proofs.Common.{arith}
 use Rattle.engine_core.proofs.HouseLemmas.{marks-wake, table-houses}
-use Rattle.engine_core.proofs.house_rules.HouseRulesPropagators.wake.Goals as goal
+use Rattle.engine_core.proofs.house_rules.HouseRules.wake.Goals as goal
 
 pub join_marks-requires : goal.join_marks-requires
 join_marks-requires g c =

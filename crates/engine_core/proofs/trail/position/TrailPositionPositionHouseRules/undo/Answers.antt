@@ -1,5 +1,5 @@
 use Rattle.engine_core.proofs.QueueLemmas.{IsBoardOf-same}
-use Rattle.engine_core.proofs.trail.position.TrailPositionPosition.undo.Goals as goal
+use Rattle.engine_core.proofs.trail.position.TrailPositionPositionHouseRules.undo.Goals as goal
 
 pub returns-clause-walks : goal.returns-clause-walks
 returns-clause-walks g c =

@@ -1,7 +1,7 @@
 -- A pairing of the first cells with values, and the values that are free yet.
 use Rattle.std.specs.Prelude.{◌≡◌, ℕ, ◌+◌, ◌<◌, true, false, List, slice_index, Option, MatchOption}
 use Rattle.solo_core.specs.Common.{has_bit, has_in}
-use Rattle.solo_core.specs.Peeled.{IsPaired}
+use Rattle.solo_core.specs.PeeledHouses.{IsPaired}
 use Rattle.solo_core.specs.declared.visits.graph.CellValueGraph.{CellValueGraph}
 
 -- each of the first cells has a value of its own, which isn't free
