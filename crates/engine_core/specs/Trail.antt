@@ -81,7 +81,7 @@ is_since p t from n j =
     any_below (λ m. nat_le from m && has_place (p.scope j) (change_at t.changes m).0) n
 
 -- a visit of h struck values, noted them, and left each cell a value
-pub record IsStruck (p : RuleSystem) (h : ℕ) (from to : Trail) : Type 0 where
+pub record IsHouseStruck (p : RuleSystem) (h : ℕ) (from to : Trail) : Type 0 where
   pub left : has to.board ≡ after p h (has from.board)
   pub alive : IsAlive p (has to.board)
   pub lost : AreLost p h (length (p.scope h)) from to

@@ -11,27 +11,27 @@ all_split P [] ys all = (tt, all)
 all_split P (x ∷ xs) ys all = let rest = all_split P xs ys all.1 in ((all.0, rest.0), rest.1)
 
 -- ---- kinds of tests, each made by a Boolean test
-pub record Kind (F : Type 0) : Type 0 where
+pub record TestKind (F : Type 0) : Type 0 where
   pub test : ℕ → F
   pub count : ℕ
   pub right : ℕ → Bool
 
-abbrev pub each : {F : Type 0} → Kind F → List F
+abbrev pub each : {F : Type 0} → TestKind F → List F
 each k = map k.test (range_with_len 0 k.count)
 
-abbrev pub tests : {F : Type 0} → List (Kind F) → List F
+abbrev pub tests : {F : Type 0} → List (TestKind F) → List F
 tests [] = []
 tests (k ∷ ks) = each k ++ tests ks
 
-each_at : {F : Type 0} (k : Kind F) (c : ℕ) (d : F) → c < k.count → get_or (each k) c d ≡ k.test c
+each_at : {F : Type 0} (k : TestKind F) (c : ℕ) (d : F) → c < k.count → get_or (each k) c d ≡ k.test c
 each_at k c d lt = get_or-map-range_with_len k.test 0 k.count c c d lt (omega arith)
 
-pub all_each : {F : Type 0} (P : F → Type 0) (k : Kind F) → ((c : ℕ) → c < k.count → P (k.test c)) → AllByRecursion P (each k)
+pub all_each : {F : Type 0} (P : F → Type 0) (k : TestKind F) → ((c : ℕ) → c < k.count → P (k.test c)) → AllByRecursion P (each k)
 all_each P k all =
     recursion_from_All P (each k) (λ c d lt. let low : c < k.count =
     rw length-map-range_with_len at lt in subst P (sym (each_at k c d low)) (all c low))
 
-each_all : {F : Type 0} (P : F → Type 0) (k : Kind F) → AllByRecursion P (each k) → (c : ℕ) → c < k.count → P (k.test c)
+each_all : {F : Type 0} (P : F → Type 0) (k : TestKind F) → AllByRecursion P (each k) → (c : ℕ) → c < k.count → P (k.test c)
 each_all P k all c lt = subst P (each_at k c (k.test c) lt) (all_at P (k.test c) (each k) c all (rw length-map-range_with_len lt))
 
 module _ {F : Type 0} (fails : F → Type 0) where
@@ -55,7 +55,7 @@ module _ {F : Type 0} (fails : F → Type 0) where
       inr
       (before 0 (omega arith), first_at tests k d (omega arith) failed (λ j low. before (suc j) (omega arith)))
 
-  pub first_each : (k : Kind F) (c : ℕ) → c < k.count → fails (k.test c) → ((d : ℕ) → d < c → Holds (k.test d)) → IsFirstFailed fails (each k) (k.test c)
+  pub first_each : (k : TestKind F) (c : ℕ) → c < k.count → fails (k.test c) → ((d : ℕ) → d < c → Holds (k.test d)) → IsFirstFailed fails (each k) (k.test c)
   first_each k c lt failed before =
       let at : (d : ℕ) → d < k.count → get_or (each k) d (k.test c) ≡ k.test d = λ d. each_at k d (k.test c) in
       subst (IsFirstFailed fails (each k)) (at c lt) (first_at (each k) c (k.test c) (rw length-map-range_with_len lt) (subst fails (sym (at c lt)) failed)
@@ -87,38 +87,38 @@ module _ {F : Type 0} (fails : F → Type 0) where
       by (inr holds) (inr first) = inr (first.0, inr (holds, first.1))
 
   -- ---- the tests of kinds
-  pub record IsMade (k : Kind F) : Type 0 where
+  pub record IsKindMade (k : TestKind F) : Type 0 where
     pub failed : (c : ℕ) → c < k.count → k.right c ≡ false → fails (k.test c)
     pub held : (c : ℕ) → c < k.count → k.right c ≡ true → Holds (k.test c)
 
-  abbrev pub AreHeld : Kind F → Type 0
+  abbrev pub AreHeld : TestKind F → Type 0
   AreHeld k = (c : ℕ) → c < k.count → Holds (k.test c)
 
-  abbrev pub AreRight : Kind F → Type 0
+  abbrev pub AreRight : TestKind F → Type 0
   AreRight k = (c : ℕ) → c < k.count → k.right c ≡ true
 
-  pub none_held : (ks : List (Kind F)) → AllByRecursion AreHeld ks → NoneFails fails (tests ks)
+  pub none_held : (ks : List (TestKind F)) → AllByRecursion AreHeld ks → NoneFails fails (tests ks)
   none_held [] held = tt
   none_held (k ∷ ks) held = AllByRecursion-append Holds (each k) (tests ks) (all_each Holds k held.0) (none_held ks held.1)
 
-  pub none_right : (ks : List (Kind F)) → AllByRecursion IsMade ks → AllByRecursion AreRight ks → NoneFails fails (tests ks)
+  pub none_right : (ks : List (TestKind F)) → AllByRecursion IsKindMade ks → AllByRecursion AreRight ks → NoneFails fails (tests ks)
   none_right [] made right = tt
   none_right (k ∷ ks) made right =
       AllByRecursion-append Holds (each k) (tests ks) (all_each Holds k (λ c lt. made.0.held c lt (right.0 c lt))) (none_right ks made.1 right.1)
 
-  pub right_none : (ks : List (Kind F)) → AllByRecursion IsMade ks → NoneFails fails (tests ks) → AllByRecursion AreRight ks
+  pub right_none : (ks : List (TestKind F)) → AllByRecursion IsKindMade ks → NoneFails fails (tests ks) → AllByRecursion AreRight ks
   right_none [] made none = tt
   right_none (k ∷ ks) made none =
       let both = all_split Holds (each k) (tests ks) none in
       ((λ c lt. true_from_ne_false (k.right c) (λ off. each_all Holds k both.0 c lt (made.0.failed c lt off))), right_none ks made.1 both.1)
 
-  pub known_tests : (ks : List (Kind F)) → AllByRecursion IsMade ks → AllByRecursion IsKnown (tests ks)
+  pub known_tests : (ks : List (TestKind F)) → AllByRecursion IsKindMade ks → AllByRecursion IsKnown (tests ks)
   known_tests [] made = tt
   known_tests (k ∷ ks) made = AllByRecursion-append IsKnown (each k) (tests ks)
       (all_each IsKnown k (λ c lt. known_by (k.right c) (made.0.failed c lt) (made.0.held c lt))) (known_tests ks made.1)
 
   -- the first that fails of one kind, where those of the kinds before it hold
-  pub first_in : (front : List (Kind F)) (k : Kind F) (rest : List (Kind F)) → AllByRecursion IsMade (front ++ k ∷ rest) → AllByRecursion AreRight front
+  pub first_in : (front : List (TestKind F)) (k : TestKind F) (rest : List (TestKind F)) → AllByRecursion IsKindMade (front ++ k ∷ rest) → AllByRecursion AreRight front
       → (c : ℕ) → c < k.count → k.right c ≡ false → ((d : ℕ) → d < c → k.right d ≡ true) → IsFirstFailed fails (tests (front ++ k ∷ rest)) (k.test c)
   first_in [] k rest made right c lt off before =
       first_front (each k) (tests rest) (k.test c) (first_each k c lt (made.0.failed c lt off) (λ d low. made.0.held d (omega arith) (before d low)))

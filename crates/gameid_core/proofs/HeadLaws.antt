@@ -4,6 +4,7 @@ use Rattle.gameid_core.specs.declared.id.game.Game.TheVariants.{Solo}
 use Rattle.gameid_core.proofs.Reading.{begins_front, bind_ok, decimal_leads, front_numeral, not_refused, ok_is, only_taken, own, place, taken}
 
 -- The part of an ID before its colon: what is read is spelled, and what is spelled is read.
+
 -- ---- numbers
 
 pub front_parts : (text : List ℕ) → digits_front text ++ after_digits text ≡ text
@@ -47,7 +48,7 @@ side_found text e = grind (arith, common_steps, false≢true, front_parts, front
 
 -- ---- the size
 
-pub record Small (a b : ℕ) : Type 0 where
+pub record AreSmallSides (a b : ℕ) : Type 0 where
   pub a_some : 0 < a
   pub b_some : 0 < b
   pub a_small : a ≤ max_side
@@ -117,7 +118,7 @@ module _ (game : Game) where
   sides_again front a b false small_a small_b some_a some_b (inr e) = grind (arith, common_steps, side_again [] small_a some_a refl)
   sides_again front a b true small_a small_b some_a some_b e = grind (arith, common_steps, side_again)
 
-  pub range_small : (a b : ℕ) → in_range game a b ≡ true → Small a b
+  pub range_small : (a b : ℕ) → in_range game a b ≡ true → AreSmallSides a b
   range_small a b e = grind arith
 
   pub size_take : (text : List ℕ) (size : SizeRead) → size_of game text ≡ Ok size → IsGameSize text size.w size.h size.x × (in_range game size.w size.h ≡ true)
@@ -190,7 +191,7 @@ pub size_of_solo : (front : List ℕ) (a b : ℕ) (x : Bool) → IsSoloSizeText 
 size_of_solo front a b x s = grind arith
 
 -- a puzzle that was read: its head, and what its description gave
-pub record Parts {B P : Type 0} (game : Game) (text : List ℕ) (body : HeadRead → List ℕ → Result B IdFault) (make : HeadRead → B → P) (p : P) : Type 0 where
+pub record PartsRead {B P : Type 0} (game : Game) (text : List ℕ) (body : HeadRead → List ℕ → Result B IdFault) (make : HeadRead → B → P) (p : P) : Type 0 where
   pub head : HeadRead
   pub given : B
   pub is_head : IsHead game text head
@@ -200,7 +201,7 @@ pub record Parts {B P : Type 0} (game : Game) (text : List ℕ) (body : HeadRead
 pub parts_of : {B P : Type 0} (game : Game) (text : List ℕ)
     (body : HeadRead → List ℕ → Result B IdFault) (make : HeadRead → B → P) {p : P}
     → puzzle_of game (λ head description. body head description >>= (λ b. taken (make head b)))
-    text ≡ Ok p → Parts game text body make p
+    text ≡ Ok p → PartsRead game text body make p
 unfolding puzzle_of
 parts_of game text body make e = grind (arith, head_take)
 
@@ -219,6 +220,7 @@ unfolding puzzle_of
 puzzle_too_long game behind text over = rw (head_too_long game text over) refl
 
 -- The first of the tests before the colon that fails is the fault that is read.
+
 -- ---- the first that fails
 
 -- what was read tells the first test that fails, or all of them pass

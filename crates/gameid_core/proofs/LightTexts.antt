@@ -124,6 +124,7 @@ light_only text r p gives s = only_of _ _ light_text_again text r gives p s
 pub ruleset reads_exactly = (light_takes, light_only)
 
 -- The written text of a puzzle of Light Up: its length, that it spells the puzzle, and that no other does.
+
 -- ---- the cells of a puzzle
 
 pub light_at : (cells : List LightCell) (i : ℕ) → AllByRecursion IsLightCell cells → i < length cells → IsLightCell (get_or cells i White)

@@ -101,6 +101,7 @@ ones_lawful size trees tents counts kept e w h grid same is =
     grind (arith, recursion_from_All, length-map-range_with_len, are_ones)
 
 -- Laws of the runs of a line, by induction on the cells.
+
 -- a white cell cuts a line in two
 pub runs_after-cut : (k : ℕ) (f g : List ℕ) → runs_after k (f ++ 0 ∷ g) ≡ runs_after k f ++ runs g
 unfolding runs_after

@@ -5,6 +5,7 @@ use Rattle.gameid_core.specs.LightText.{light_symbol}
 use Rattle.gameid_core.proofs.LineLaws.{all_at}
 
 -- What is printed of a cell is read back: one byte for each cell, or a number.
+
 -- the number of a place is below `values`
 pub number_fits : (hides : ℕ → Type 0) (values : ℕ) (size : Extent) (g : List ℕ) (place : ℕ) → IsAsShown hides values size g
     → place < size.w * size.h → slice_index g place < values
@@ -49,6 +50,7 @@ same_some is also = cc
 
 -- A row is read cell by cell: what is left of it is what is printed of the cells from there on, its line end and what
 -- follows.
+
 -- the texts of the n numbers from k on
 unfoldable pub each_from : (ℕ → List ℕ) → ℕ → ℕ → List ℕ
 each_from text k zero = []
@@ -159,6 +161,7 @@ in_grid size y w x cells wide lt below all = grind arith
 
 -- A grid is read row by row: it agrees so far with every grid whose printed form the text begins with, so in the end it
 -- is the only one.
+
 -- numbers that fit are a grid
 pub is_shown : {hides : ℕ → Type 0} {values : ℕ} {size : Extent} {g : List ℕ} (y : ℕ) → size.h ≤ y → y ≤ size.h → length g ≡ size.w * size.h
     → FitUpTo hides values g (y * size.w) → IsAsShown hides values size g

@@ -152,6 +152,7 @@ front_decimal n after few other =
     let front = front_numeral (decimal n) after (numeral n (omega arith)).digits other in (front.0, front.1, digits_value-decimal own n (omega arith))
 
 -- Reading a description token by token, for any game: what a step answers, the first fault, and that a text spells one puzzle or has one.
+
 -- the value of a step that was not refused
 pub bind_ok : {A B : Type 0} (r : Result A IdFault) (f : A → Result B IdFault) (y : B) → (r >>= f) ≡ Ok y → (x : A) × (r ≡ Ok x) × (f x ≡ Ok y)
 bind_ok r f y e = grind arith
@@ -276,6 +277,7 @@ pub one_text : {P : Type 0} (written : List ℕ → P → Type 0) (write : P →
 one_text written write form text other p v w = grind (arith)
 
 -- Reading a description that fills cells: Solo and Light Up.
+
 -- ---- filling
 
 -- the cells with a token's cells after them, unless they pass the grid's

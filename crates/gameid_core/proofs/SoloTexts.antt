@@ -211,6 +211,7 @@ solo_only text r p gives s = only_of _ _ solo_text_again text r gives p s
 pub ruleset reads_exactly = (solo_takes, solo_only)
 
 -- The written text of a puzzle of Solo: its length, that it spells the puzzle, and that no other does.
+
 -- a cell takes at most three bytes: '_' and two digits
 cells_short : (k : ℕ) (touches : Bool) (cells : List ℕ)
     → AllByRecursion (λ v. v ≤ max_numbers) cells

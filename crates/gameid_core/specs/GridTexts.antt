@@ -8,6 +8,7 @@ abbrev pub Adds : {Z : Type 0} → List ℕ → String Z → String Z → Type 0
 Adds more old new = string_bytes new ≡ string_bytes old ++ more
 
 -- Printed grids, by what is printed of each place.
+
 -- the texts of 0, 1, .., n - 1, one after the other
 unfoldable pub each_below : (ℕ → List ℕ) → ℕ → List ℕ
 each_below text zero = []

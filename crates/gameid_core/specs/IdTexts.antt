@@ -6,6 +6,7 @@ use Rattle.gameid_core.specs.Head.{HeadRead, SizeRead, head_of}
 use Rattle.gameid_core.specs.Steps.{◌>>=◌}
 
 -- The size before the colon, as a text.
+
 -- 'CxR' or 'WxH'
 abbrev pub size_text : ℕ → ℕ → List ℕ
 size_text a b = decimal a ++ 120 ∷ decimal b
@@ -25,6 +26,7 @@ IsSoloSizeText text c r false = IsSizeText text c r
 IsSoloSizeText text c r true = text ≡ solo_size_text c r true
 
 -- Game IDs of any game: a head, and a description behind it.
+
 -- the puzzle that the text spells, or its first fault: the head is read, and then the description
 unfoldable pub puzzle_of : {P : Type 0} → Game → (HeadRead → List ℕ → Result P IdFault) → List ℕ
     → Result P IdFault
@@ -36,6 +38,7 @@ abbrev pub id_text : SizeRead → List ℕ → List ℕ
 id_text size description = solo_size_text size.w size.h size.x ++ 58 ∷ description
 
 -- One puzzle for a text, and one text for a puzzle.
+
 -- each text spells exactly one puzzle or has exactly one fault, and never both
 pub record HasOneReading {P : Type 0} (spells : List ℕ → P → Type 0)
     (read : List ℕ → Result P IdFault) : Type 0 where

@@ -6,6 +6,7 @@ use Rattle.grid_core.specs.Grids.{column_cells, row_cells}
 use Rattle.grid_core.specs.Lines.{line_numbers, lines_of}
 
 -- The lengths of the maximal black runs of a line, whose cells are 0 for white and 1 for black.
+
 -- a run of that many cells, unless there are none
 abbrev pub run_of : ℕ → List ℕ
 run_of zero = []
@@ -21,6 +22,7 @@ abbrev pub runs : List ℕ → List ℕ
 runs cells = runs_after 0 cells
 
 -- What is counted of a grid's lines.
+
 -- how many of the cells are 1
 abbrev pub ones : List ℕ → ℕ
 ones cells = length (filter (λ v. v == 1) cells)

@@ -33,8 +33,8 @@ pub use Rattle.std.specs.Int.{bit_at}
 pub use Rattle.std.specs.List.{IsDistinct, between, list_any, range_with_len, slice_get}
 pub use Rattle.std.specs.List.Sorted.{IsStrictlyIncreasing}
 pub use Rattle.std.specs.Prelude.{Any, Contains, IsPermutation, IsSorted, IsTrue, Option, bit_xor, count_by, filter, vec_len}
-pub use Rattle.grid_core.specs.Augmenting.{AreJoined, AreOwners, AreReached, Extends, FrontierView, IsApart, IsBlocked, IsClosed, IsFree, IsFreeFor}
-pub use Rattle.grid_core.specs.Augmenting.{IsMateOfLater, IsReach, MatesView, ReachesOwners, with_left}
+pub use Rattle.grid_core.specs.Augmenting.{AreMatesJoined, AreOwners, AreLeftsReached, Extends, FrontierView, IsApart, IsBlocked, IsExplored, IsFree, IsFreeFor}
+pub use Rattle.grid_core.specs.Augmenting.{IsMateOfLater, IsFrontierOf, MatesView, ReachesOwners, with_left}
 pub use Rattle.grid_core.specs.Board.{IsBoard, IsSetsOf, Layout}
 pub use Rattle.grid_core.specs.Candidates.{Candidates, IsInside, IsWithin, max_cells}
 unfoldable pub use Rattle.grid_core.specs.Candidates.{all_below, all_of, any_below, better, count_below, grid_of, is_dead, is_full, least_below, only}

@@ -1,10 +1,11 @@
 -- Pairings: short sets, mates, and the steps of a search for one.
-use Rattle.grid_core.proofs.Common.{All-from_get_or, All-get_or, All-permutation, AllPairs-from_increasing, Any, Any-from_list_any, AreJoined, AreOwners, AreReached, Bool, Contains, Contains-permutation, Decides-like, Decides-ltb, Extends, FrontierView, IsApart, IsBlocked, IsClosed, IsDistinct, IsDistinct-from_AllPairs, IsFree, IsFreeFor, IsMateOfLater, IsNonDecreasingBy-from_sort, IsPermutation, IsReach, IsShortSet, IsSorted, IsStrictlyIncreasing, IsStrictlyIncreasing-filter, IsTrue, List, MatesView, None, Option, ReachesOwners, Some, [], and_from, and_parts, ap, arith, cases_eq, cases_lt, common_steps, count_by, drop, eqb, eqb-false, false, filter, get_or, get_or-append_seam, get_or-map, get_or-range_with_len, get_or_default, get_or_past, inl, inr, is_member-Decides, is_member-filter, length, length-append, length-drop, length-filter, length-le_from_is_member, length-map, length-range_with_len, length-set, length-take, length_permutation, list_any, list_any-IsPermutation, list_any_at, lt-ltb, ltb, ltb-true, map, nat_cmp, nat_eq_equiv, range_with_len, refl, same_from_decides, set, subst, sym, take, take_more_set, true, unsigned_Decides, with_left, ℕ, ◌&&◌, ◌++◌, ◌+◌, ◌-◌, ◌<◌, ◌∙◌, ◌∷◌, ◌≡◌, ◌≤◌}
+use Rattle.grid_core.proofs.Common.{All-from_get_or, All-get_or, All-permutation, AllPairs-from_increasing, Any, Any-from_list_any, AreMatesJoined, AreOwners, AreLeftsReached, Bool, Contains, Contains-permutation, Decides-like, Decides-ltb, Extends, FrontierView, IsApart, IsBlocked, IsExplored, IsDistinct, IsDistinct-from_AllPairs, IsFree, IsFreeFor, IsMateOfLater, IsNonDecreasingBy-from_sort, IsPermutation, IsFrontierOf, IsShortSet, IsSorted, IsStrictlyIncreasing, IsStrictlyIncreasing-filter, IsTrue, List, MatesView, None, Option, ReachesOwners, Some, [], and_from, and_parts, ap, arith, cases_eq, cases_lt, common_steps, count_by, drop, eqb, eqb-false, false, filter, get_or, get_or-append_seam, get_or-map, get_or-range_with_len, get_or_default, get_or_past, inl, inr, is_member-Decides, is_member-filter, length, length-append, length-drop, length-filter, length-le_from_is_member, length-map, length-range_with_len, length-set, length-take, length_permutation, list_any, list_any-IsPermutation, list_any_at, lt-ltb, ltb, ltb-true, map, nat_cmp, nat_eq_equiv, range_with_len, refl, same_from_decides, set, subst, sym, take, take_more_set, true, unsigned_Decides, with_left, ℕ, ◌&&◌, ◌++◌, ◌+◌, ◌-◌, ◌<◌, ◌∙◌, ◌∷◌, ◌≡◌, ◌≤◌}
 use Rattle.std.specs.Set.{is_member}
 use Rattle.std.proofs.lemmas.Map.Steps.{length-le_from_distinct_below}
 use Rattle.std.proofs.lemmas.Map.Keys.{IsDistinct-IsPermutation, IsStrictlyIncreasing-from_distinct, apart_from_distinct}
 
 -- What a left's new mate does to the owners of rights.
+
 -- a right that has an owner is one of the rights
 pub mate_in : (owners : List (Option ℕ)) (r : ℕ) {l : ℕ} → get_or owners r None ≡ Some l → r < length owners
 mate_in owners r h = grind (arith, common_steps, get_or_past)
@@ -31,6 +32,7 @@ AreOwners-replace {mates} left right left_in {owners} p inside free =
     }
 
 -- A short set rules out every choice of different joined rights.
+
 -- a test of membership says that the number stands in the list
 pub contains_from_member : (xs : List ℕ) (q : ℕ) → is_member eqb xs q ≡ true → Contains xs q
 contains_from_member xs q h = (is_member-Decides unsigned_Decides xs q).0 h
@@ -75,6 +77,7 @@ module _ (joins : ℕ → ℕ → Bool) (lefts rights : ℕ) (xs : List ℕ) (sh
       absurd (omega (arith, length-filter (λ r. list_any (λ l. joins l r) xs) (range_with_len 0 rights), length-map xs right_of))
 
 -- Lists of different numbers are no longer than what holds them.
+
 -- the first `count` entries, all different and below n, are at most n
 pub apart-le : (xs : List ℕ) (count n : ℕ) → count ≤ length xs → IsApart xs count
     → ((j : ℕ) → j < count → get_or xs j 0 < n) → count ≤ n
@@ -103,19 +106,20 @@ count_by-le p n ys held =
     omega (arith, length-filter p (range_with_len 0 n))
 
 -- The steps of a search: the rights of a left are walked, and the lefts reached, and mates change on the way back.
+
 -- what stands while the rights of a left are walked, as far as `from`
 pub record IsScan (joins : ℕ → ℕ → Bool) (mates : List ℕ) (old frontier : FrontierView) (left from : ℕ) : Type 0 where
   pub room : frontier.room ≡ old.room
-  pub reach : IsReach joins mates frontier
+  pub reach : IsFrontierOf joins mates frontier
   pub grown : Extends old.lefts frontier.lefts
   pub owners : ReachesOwners joins mates frontier.lefts left from
 
 -- the owner of a right is reached from the left at `head`, which the right is joined to
-IsReach-push : {joins : ℕ → ℕ → Bool} {mates : List ℕ} {frontier : FrontierView} → IsReach joins mates frontier
+IsFrontierOf-push : {joins : ℕ → ℕ → Bool} {mates : List ℕ} {frontier : FrontierView} → IsFrontierOf joins mates frontier
     → {head right owner : ℕ} → head < length frontier.lefts → IsTrue (joins (get_or frontier.lefts head 0) right)
     → owner < length mates → get_or mates owner 0 ≡ right
-    → IsReach joins mates (record frontier { lefts = frontier.lefts ++ owner ∷ []; parents = frontier.parents ++ head ∷ [] })
-IsReach-push {frontier} reach head_in joined owner_in owns =
+    → IsFrontierOf joins mates (record frontier { lefts = frontier.lefts ++ owner ∷ []; parents = frontier.parents ++ head ∷ [] })
+IsFrontierOf-push {frontier} reach head_in joined owner_in owns =
     let some = reach.some in
     let root = reach.root in
     let as_many = reach.as_many in
@@ -142,7 +146,7 @@ mate_kept : (mates : List ℕ) {xs ys : List ℕ} {r : ℕ} → Extends xs ys �
 mate_kept mates e w = let a = e.grown in (w.0, w.1, omega arith, ap (λ l. get_or mates l 0) (e.kept w.0 w.2) ∙ w.3)
 
 -- an owner that was reached isn't the root, which has no mate
-mate_of_reached : {joins : ℕ → ℕ → Bool} {mates : List ℕ} {frontier : FrontierView} {owner r : ℕ} → IsReach joins mates frontier
+mate_of_reached : {joins : ℕ → ℕ → Bool} {mates : List ℕ} {frontier : FrontierView} {owner r : ℕ} → IsFrontierOf joins mates frontier
     → Contains frontier.lefts owner → owner < length mates → get_or mates owner 0 ≡ r → IsMateOfLater mates frontier.lefts r
 mate_of_reached reach w owner_in owns = grind (arith, common_steps, get_or_default)
 
@@ -150,7 +154,7 @@ mate_of_reached reach w owner_in owns = grind (arith, common_steps, get_or_defau
 module _ {joins : ℕ → ℕ → Bool} {mates : List ℕ} {old frontier : FrontierView} {left from right : ℕ}
     (s : IsScan joins mates old frontier left from)
     (between : (q : ℕ) → from ≤ q → q < right → IsTrue (joins left q) → ⊥) where
-  IsScan-step : {more : FrontierView} → more.room ≡ frontier.room → IsReach joins mates more → Extends frontier.lefts more.lefts
+  IsScan-step : {more : FrontierView} → more.room ≡ frontier.room → IsFrontierOf joins mates more → Extends frontier.lefts more.lefts
       → ((IsFree mates right → ⊥) → IsMateOfLater mates more.lefts right)
       → IsScan joins mates old more left (right + 1)
   IsScan-step room reach grown here = record {
@@ -178,17 +182,17 @@ module _ {joins : ℕ → ℕ → Bool} {mates : List ℕ} {old frontier : Front
         → IsScan joins mates old (record frontier { lefts = frontier.lefts ++ owner ∷ []; parents = frontier.parents ++ head ∷ [] }) left (right + 1)
     IsScan-push {head} head_in left_is joined =
         let within : head < length frontier.lefts = let a = s.grown.grown in omega arith in
-        let reach = IsReach-push s.reach within (rw (s.grown.kept head head_in, sym left_is) joined) owns.0 owns.1 in
+        let reach = IsFrontierOf-push s.reach within (rw (s.grown.kept head head_in, sym left_is) joined) owns.0 owns.1 in
         IsScan-step refl reach (Extends-push owner)
         (λ n. mate_of_reached reach
         (length frontier.lefts, omega (arith, length-append frontier.lefts (owner ∷ [])), get_or-append_seam frontier.lefts owner [] owner) owns.0 owns.1)
 
 -- the rights of one more left are the mates of lefts that were reached
-pub IsClosed-step : (joins : ℕ → ℕ → Bool) {rights : ℕ} (mates : List ℕ) {lefts more : List ℕ} {head : ℕ} → head < length lefts
-    → IsClosed joins rights mates lefts head → Extends lefts more
+pub IsExplored-step : (joins : ℕ → ℕ → Bool) {rights : ℕ} (mates : List ℕ) {lefts more : List ℕ} {head : ℕ} → head < length lefts
+    → IsExplored joins rights mates lefts head → Extends lefts more
     → IsBlocked joins rights mates (get_or lefts head 0) → ReachesOwners joins mates more (get_or more head 0) rights
-    → IsClosed joins rights mates more (head + 1)
-IsClosed-step joins mates {more} {head} head_in closed grown blocked owners j r a b h = elim (cases_eq j head) [
+    → IsExplored joins rights mates more (head + 1)
+IsExplored-step joins mates {more} {head} head_in closed grown blocked owners j r a b h = elim (cases_eq j head) [
   | inl e ↦
       let here : IsTrue (joins (get_or more head 0) r) = subst (λ k. IsTrue (joins (get_or more k 0) r)) e h in
       owners r b here (λ free. blocked r (record { right_in = b; joined = subst (λ l. IsTrue (joins l r)) (grown.kept head head_in) here; free = free }))
@@ -199,7 +203,7 @@ IsClosed-step joins mates {more} {head} head_in closed grown blocked owners j r 
 pub record IsShifting (joins : ℕ → ℕ → Bool) (rights : ℕ) (old mates : MatesView) (frontier : FrontierView) (place right : ℕ) : Type 0 where
   pub room : mates.room ≡ old.room
   pub as_many : length mates.mates ≡ length old.mates
-  pub joined : AreJoined joins rights mates.mates
+  pub joined : AreMatesJoined joins rights mates.mates
   pub place_in : place < length frontier.lefts
   pub way : (j : ℕ) → 0 < j → j ≤ place
       → IsTrue (joins (get_or frontier.lefts (get_or frontier.parents j 0) 0) (get_or mates.mates (get_or frontier.lefts j 0) 0))
@@ -207,7 +211,7 @@ pub record IsShifting (joins : ℕ → ℕ → Bool) (rights : ℕ) (old mates :
 
 -- lefts whose rights are all mates of those after the first have too few of them
 module _ (joins : ℕ → ℕ → Bool) (lefts rights : ℕ) (mates : List ℕ) (frontier : FrontierView) (sorted : List ℕ)
-    (reach : IsReach joins mates frontier) (closed : IsClosed joins rights mates frontier.lefts (length frontier.lefts))
+    (reach : IsFrontierOf joins mates frontier) (closed : IsExplored joins rights mates frontier.lefts (length frontier.lefts))
     (same : IsPermutation frontier.lefts sorted) (root_in : length mates < lefts) where
   later_mates : List ℕ
   later_mates = drop 1 (map (λ l. get_or mates l 0) frontier.lefts)
@@ -244,19 +248,20 @@ module _ (joins : ℕ → ℕ → Bool) (lefts rights : ℕ) (mates : List ℕ) 
   }
 
 -- What is done to the lefts that a search has reached.
+
 -- what is marked is one of the entries
 marked_in : (seen : List Bool) {l : ℕ} → get_or seen l false ≡ true → l < length seen
 marked_in seen h = grind (arith, common_steps, get_or_past)
 
 -- no more lefts are reached than there is room for
-pub reached-le : (seen : List Bool) (lefts : List ℕ) → AreReached seen lefts → length lefts ≤ length seen
+pub reached-le : (seen : List Bool) (lefts : List ℕ) → AreLeftsReached seen lefts → length lefts ≤ length seen
 reached-le seen lefts r =
     apart-le lefts (length lefts) (length seen) (omega arith) r.apart (λ j h. marked_in seen (r.seen_each j h))
 
 -- a left that wasn't reached is
-pub AreReached-push : {seen : List Bool} {lefts : List ℕ} (left : ℕ) → AreReached seen lefts
-    → left < length seen → (Contains lefts left → ⊥) → AreReached (set seen left true) (lefts ++ left ∷ [])
-AreReached-push {lefts} left r inside new = record {
+pub AreLeftsReached-push : {seen : List Bool} {lefts : List ℕ} (left : ℕ) → AreLeftsReached seen lefts
+    → left < length seen → (Contains lefts left → ⊥) → AreLeftsReached (set seen left true) (lefts ++ left ∷ [])
+AreLeftsReached-push {lefts} left r inside new = record {
   apart = record { differ = λ i j a b e. let c = r.apart.differ i j a in let d = is_new i in grind (arith, common_steps) };
   seen_each = λ j h. let c = r.seen_each j in grind (arith, common_steps);
   seen_only = λ l h. elim (cases_eq l left) [
@@ -271,17 +276,17 @@ AreReached-push {lefts} left r inside new = record {
 -- there is room for it behind those in the queue
 module _ {seen : List Bool} (queue parents : List ℕ) {room count left : ℕ} {v : FrontierView}
     (is : ◌≡◌ {A = FrontierView} (record { room = room; lefts = take count queue; parents = take count parents }) v)
-    (r : AreReached seen (take count queue)) (marks : length seen ≡ room) (fits : count ≤ length queue)
+    (r : AreLeftsReached seen (take count queue)) (marks : length seen ≡ room) (fits : count ≤ length queue)
     (left_in : left < v.room) (new : Contains v.lefts left → ⊥) where
-  pushed : AreReached (set seen left true) (take count queue ++ left ∷ [])
-  pushed = AreReached-push left r
+  pushed : AreLeftsReached (set seen left true) (take count queue ++ left ∷ [])
+  pushed = AreLeftsReached-push left r
       (let e = ap (λ (w : FrontierView). w.room) is in omega arith) (rw (ap (λ (w : FrontierView). w.lefts) is) new)
 
   pub room_for_left : count < length seen
   room_for_left = grind (arith, common_steps, length-append, length-set, length-take, pushed, reached-le)
 
-  pub AreReached-write : count < length queue → AreReached (set seen left true) (take (count + 1) (set queue count left))
-  AreReached-write within = rw (take_more_set queue count left within) pushed
+  pub AreLeftsReached-write : count < length queue → AreLeftsReached (set seen left true) (take (count + 1) (set queue count left))
+  AreLeftsReached-write within = rw (take_more_set queue count left within) pushed
 
 -- and what is seen of it then
 pub view-write : (queue parents : List ℕ) (room count left parent : ℕ) {v : FrontierView}
@@ -293,7 +298,7 @@ pub view-write : (queue parents : List ℕ) (room count left parent : ℕ) {v : 
 view-write queue parents room count left parent is queue_room parents_room = grind (arith, common_steps, take_more_set)
 
 -- lefts that were put in order ascend, stay different, and stay those that are seen
-module _ {seen : List Bool} {lefts : List ℕ} (sorted : List ℕ) (r : AreReached seen lefts)
+module _ {seen : List Bool} {lefts : List ℕ} (sorted : List ℕ) (r : AreLeftsReached seen lefts)
     (same : IsPermutation lefts sorted) (up : IsSorted nat_cmp sorted) where
   distinct : IsDistinct eqb sorted
   distinct = IsDistinct-IsPermutation eqb nat_eq_equiv.symm lefts sorted same (IsDistinct-from_AllPairs unsigned_Decides lefts
@@ -302,8 +307,8 @@ module _ {seen : List Bool} {lefts : List ℕ} (sorted : List ℕ) (r : AreReach
   pub ascending : IsStrictlyIncreasing sorted
   ascending = IsStrictlyIncreasing-from_distinct sorted (IsNonDecreasingBy-from_sort (λ x. x) sorted up) distinct
 
-  pub AreReached-sort : AreReached seen sorted
-  AreReached-sort =
+  pub AreLeftsReached-sort : AreLeftsReached seen sorted
+  AreLeftsReached-sort =
       let each = All-permutation (λ l. get_or seen l false ≡ true) lefts sorted same (All-from_get_or (λ l. get_or seen l false ≡ true) lefts 0 r.seen_each) in
       record {
         apart = record { differ = λ i j a b. eqb-false _ _ (apart_from_distinct eqb sorted i j 0 distinct a b) };

@@ -6,7 +6,8 @@ use Rattle.grid_core.proofs.TakingLemmas.{put_back-noted, put_back-undone, takin
 use Rattle.grid_core.specs.Planes.{AreLinesOf}
 use Rattle.grid_core.specs.declared.planes.touched_lines.Touched.{Touched}
 
--- Planes: their words and the board that they are.
+-- The words of planes, and the board that they are.
+
 -- ---- words
 -- the cells of a line of the grid are in the grid
 crossed-in : (size : Extent) (line : Line) (bits y x : ℕ) → IsLineIn size line bits → crosses line bits y x ≡ true → (y < size.h) × (x < size.w)
@@ -127,7 +128,7 @@ none_of bits room n fits none within k =
     (sym on ∙ any_below-none (has_bit bits) room none k (let lt = within k on in omega arith)))
 
 -- planes from which something was taken
-pub record IsTaken (room : ℕ) (p p' : Layers) (t : Taking) : Type 0 where
+pub record ArePlanesTaken (room : ℕ) (p p' : Layers) (t : Taking) : Type 0 where
   pub are : ArePlanes room p'
   pub left : has p' ≡ without_taking p.size.w (has p) t
   pub further : IsFurther p p'
@@ -138,7 +139,7 @@ room_to_note room p t are there = takings-room p.size (has p) (without_taking p.
 pub taken : (room : ℕ) (p : Layers) (t : Taking) (rows columns : List ℕ) → ArePlanes room p
     → IsThere p t → AreTurned p.rows p.columns rows columns t → length rows ≡ length p.rows
     → length columns ≡ length p.columns
-    → IsTaken room p (record { size = p.size; rows = rows; columns = columns; takings = set p.takings p.len t; len = p.len + 1 }) t
+    → ArePlanesTaken room p (record { size = p.size; rows = rows; columns = columns; takings = set p.takings p.len t; len = p.len + 1 }) t
 taken room p t rows columns are there turned tall wide =
     let p' : Layers = record { size = p.size; rows = rows; columns = columns; takings = set p.takings p.len t; len = p.len + 1 } in
     let within = taking_in room p t are there in
@@ -280,6 +281,7 @@ given_back room p rows columns n are e turned tall wide =
     }
 
 -- The lines of the cells that lost values.
+
 -- the cells of takings from one number to another have their lines among these: takings of 0, or of 1
 abbrev pub AreNoted : {W : Type 0} → (W → ℕ) → List Taking → ℕ → ℕ → Bool → Touched W → Type 0
 AreNoted bits takings low high zero lines = (j y x : ℕ) → low ≤ j → j < high → ((taking_at takings j).value == 0) ≡ zero

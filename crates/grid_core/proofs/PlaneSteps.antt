@@ -8,10 +8,11 @@ use Rattle.grid_core.specs.declared.planes.Planes.TheInside.{Inside}
 use Rattle.grid_core.specs.Planes.{IsTurned, number_of}
 use Rattle.std.specs.Global.{Vec}
 use Rattle.grid_core.proofs.TakingLemmas.{takings-len, takings-none}
-use Rattle.grid_core.proofs.PlaneLemmas.{IsPutBack, IsTaken, given_back, place-column, place-in, room_for, taken}
+use Rattle.grid_core.proofs.PlaneLemmas.{IsPutBack, ArePlanesTaken, given_back, place-column, place-in, room_for, taken}
 use Rattle.grid_core.proofs.GridLemmas.{grid_of-full, is_full-count, single-is}
 
 -- One step of planes, by the words that the program keeps.
+
 -- ---- reading
 pub word_read : {W : Type 0} (bits : W → ℕ) (words : List W) (line v : ℕ) (word : W) → 2 * line + v < length words → word ≡ get_or words (2 * line + v) word
     → (p : ℕ) → has_bit (bits word) p ≡ bit_of (map bits words) line v p
@@ -57,16 +58,16 @@ total-bound zero values K = omega arith
 total-bound (suc cells) values K =
     let e : suc cells * values ≡ cells * values + values = omega arith in omega (arith, total-bound cells values K, count_below-bound (K cells) values)
 
-pub record IsBegun (room : ℕ) (size : Extent) (K : Candidates) (p : Layers) : Type 0 where
+pub record ArePlanesBegun (room : ℕ) (size : Extent) (K : Candidates) (p : Layers) : Type 0 where
   pub are : ArePlanes room p
   pub fresh : IsFresh size K p
 
 -- the first words, so many lines of them, have these places, and all others none
-pub record AreWritten {W : Type 0} (bits : W → ℕ) (words : List W) (lines : ℕ) (word : W) (room : ℕ) : Type 0 where
+pub record AreLinesWritten {W : Type 0} (bits : W → ℕ) (words : List W) (lines : ℕ) (word : W) (room : ℕ) : Type 0 where
   pub is : AreLinesFilled bits lines word words
   pub long : length words ≡ 2 * room
 
-bit_written : {W : Type 0} (bits : W → ℕ) (words : List W) (lines : ℕ) (word : W) (room line v place n : ℕ) → AreWritten bits words lines word room
+bit_written : {W : Type 0} (bits : W → ℕ) (words : List W) (lines : ℕ) (word : W) (room line v place n : ℕ) → AreLinesWritten bits words lines word room
     → has_bit (bits word) place ≡ ltb place n → v < 2 → bit_of (map bits words) line v place ≡ (ltb line lines && ltb place n)
 unfolding bit_of
 bit_written bits words lines word room line v place n written first lt =
@@ -95,8 +96,8 @@ none-anywhere bits none count words empty e k place = elim (cases_lt k count) [
 -- full planes: each row has the places below the width, and each column those below the height
 pub begun : {W : Type 0} (bits : W → ℕ) (room : ℕ) (size : Extent) (row column : W) (changes : List (Change W)) → IsExtent size → size.w ≤ room → size.h ≤ room
     → ((p : ℕ) → has_bit (bits row) p ≡ ltb p size.w) → ((p : ℕ) → has_bit (bits column) p ≡ ltb p size.h) → size.w * size.h * 2 ≤ length changes
-    → (rows columns : List W) → AreWritten bits rows size.h row room → AreWritten bits columns size.w column room
-    → IsBegun room size (all_of (size.w * size.h) 2) (layers_of bits size rows columns changes 0)
+    → (rows columns : List W) → AreLinesWritten bits rows size.h row room → AreLinesWritten bits columns size.w column room
+    → ArePlanesBegun room size (all_of (size.w * size.h) 2) (layers_of bits size rows columns changes 0)
 begun bits room size row column changes lawful narrow low row_is column_is long rows columns er ec =
     let p : Layers = layers_of bits size rows columns changes 0 in
     let by_row : (y v x : ℕ) → v < 2 → bit_of p.rows y v x ≡ (ltb y size.h && ltb x size.w) = λ y v x lt.
@@ -138,7 +139,7 @@ module _ {W : Type 0} (bits : W → ℕ) (p : Inside W) {room : ℕ}
     (are : ArePlanes room (layers_of bits p.size p.rows.items p.columns.items p.changes.items p.len)) where
   pub take_step : (rows columns : Vec W) (change : Change W) → IsThere (layers_of bits p.size p.rows.items p.columns.items p.changes.items p.len) (taking_of bits change)
       → IsTurned bits change.line change.value change.bits p.rows p.columns rows columns → length rows.items ≡ length p.rows.items → length columns.items ≡ length p.columns.items
-      → IsTaken room (layers_of bits p.size p.rows.items p.columns.items p.changes.items p.len)
+      → ArePlanesTaken room (layers_of bits p.size p.rows.items p.columns.items p.changes.items p.len)
       (layers_of bits p.size rows.items columns.items (set p.changes.items p.len change) (p.len + 1)) (taking_of bits change)
   take_step rows columns change there turned tall wide =
       rw (map-set (taking_of bits) p.changes.items p.len change) (taken room _ _ (map bits rows.items) (map bits columns.items) are there turned
@@ -162,6 +163,7 @@ module _ {W : Type 0} (bits : W → ℕ) (p : Inside W) {room : ℕ}
       taking_read bits p.changes.items (p.len - 1) change (omega (arith, long, length-map p.changes.items (taking_of bits))) read
 
 -- Rows of planes as cells by place: which can have both values, and which have just one.
+
 -- ---- a cell's values
 two-counted : (f : ℕ → Bool) → count_below f 2 ≡ cond (f 0) 1 0 + cond (f 1) 1 0
 unfolding count_below

@@ -67,6 +67,7 @@ block-within c r b k lb lk =
 pub ruleset place_laws = (line_at, step_cases, block-within)
 
 -- The places and the numbers of a grid's lines.
+
 -- ---- the places of a line
 pub column-places : (size : Extent) (line : ℕ) → line < size.w → line_places size line ≡ column_places size line
 unfolding line_places

@@ -1,4 +1,4 @@
--- What a m gives back, and what was taken, noted at the end of a trail and put back from its end.
+-- What a mark gives back, and what was taken, noted at the end of a trail and put back from its end.
 use Rattle.grid_core.proofs.Common.{AreTakings, Candidates, Extent, IsInside, IsTakingIn, List, Taking, add-one, and_parts, any_below, ap, arith, cases_Bool, cases_eq, covers, crosses, differ, eqb-true, false, common_steps, get_or-set_other, get_or-set_same, inl, inr, le-leb, length, length-set, lt-leb, put_back, refl, set, suc, sym, taking_at, total, true, true≢false, turned_by, zero, ℕ, ◌%◌, ◌&&◌, ◌*◌, ◌+◌, ◌-◌, ◌/◌, ◌<◌, ◌∙◌, ◌≡◌, ◌≤◌}
 use Rattle.std.proofs.lemmas.Bool.{leb-true}
 use Rattle.std.proofs.Math.Dec.{leb}

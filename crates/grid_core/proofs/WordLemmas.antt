@@ -107,6 +107,7 @@ pub ruleset word_laws =
     (zero-bits, on-bits, back-bits, both-bits, either-bits, differ-bits, but-bits, one-bits, all-bits, full-bits, shifted-bit, some-bit_is, some-bit, counted-bits)
 
 -- Words of a list turned over.
+
 -- a word of the list with some bits turned over
 word_turned : (words : List ℕ) (i v word : ℕ) (which : ℕ → Bool) → v < 2 → 2 * i + v < length words
     → ((p : ℕ) → has_bit word p ≡ differ (has_bit (slice_index words (2 * i + v)) p) (which p))

@@ -28,7 +28,7 @@ abbrev pub IsFree : List ℕ → ℕ → Type 0
 IsFree mates r = (l : ℕ) → l < length mates → slice_index mates l ≡ r → ⊥
 
 -- each left that has a mate is joined to it
-pub record AreJoined (joins : Joins) (rights : ℕ) (mates : List ℕ) : Type 0 where
+pub record AreMatesJoined (joins : Joins) (rights : ℕ) (mates : List ℕ) : Type 0 where
   pub in_range : (l : ℕ) → l < length mates → slice_index mates l < rights
   pub joined : (l : ℕ) → l < length mates → IsTrue (joins l (slice_index mates l))
 
@@ -40,14 +40,14 @@ pub record FrontierView : Type 0 where
   pub parents : List ℕ
 
 -- different lefts, which are those seen
-pub record AreReached (seen : List Bool) (lefts : List ℕ) : Type 0 where
+pub record AreLeftsReached (seen : List Bool) (lefts : List ℕ) : Type 0 where
   pub apart : IsApart lefts (length lefts)
   pub seen_each : (j : ℕ) → j < length lefts
       → get_or seen (slice_index lefts j) false ≡ true
   pub seen_only : (l : ℕ) → get_or seen l false ≡ true → Contains lefts l
 
 -- the root, the first left without a mate, and lefts whose mates are joined to their parents
-pub record IsReach (joins : Joins) (mates : List ℕ) (frontier : FrontierView) : Type 0 where
+pub record IsFrontierOf (joins : Joins) (mates : List ℕ) (frontier : FrontierView) : Type 0 where
   pub some : 0 < length frontier.lefts
   pub root : slice_index frontier.lefts 0 ≡ length mates
   pub paired : (j : ℕ) → 0 < j → j < length frontier.lefts
@@ -86,14 +86,14 @@ pub record Extends (xs ys : List ℕ) : Type 0 where
   pub kept : (j : ℕ) → j < length xs → slice_index ys j ≡ slice_index xs j
 
 -- each right that is joined to one of the first `count` lefts is the mate of a left after the first
-abbrev pub IsClosed : Joins → ℕ → List ℕ → List ℕ → ℕ → Type 0
-IsClosed joins rights mates lefts count = (j r : ℕ) → j < count → r < rights
+abbrev pub IsExplored : Joins → ℕ → List ℕ → List ℕ → ℕ → Type 0
+IsExplored joins rights mates lefts count = (j r : ℕ) → j < count → r < rights
     → IsTrue (joins (slice_index lefts j) r) → IsMateOfLater mates lefts r
 
 -- ---- what contracts say of answers
 -- no two of the first n lefts have the same mate
-abbrev pub AreOwn : List ℕ → ℕ → Type 0
-AreOwn mates n =
+abbrev pub AreOwnMates : List ℕ → ℕ → Type 0
+AreOwnMates mates n =
     (l m : ℕ) → l < n → m < n → slice_index mates l ≡ slice_index mates m → l ≡ m
 
 -- the left that has the right for its mate, or none has
@@ -115,8 +115,8 @@ with_left frontier left parent = record {
 }
 
 -- each right that is joined to the left at `head` is free, or the mate of a left that was reached
-abbrev pub Reaches : Joins → ℕ → MatesView → FrontierView → ℕ → Type 0
-Reaches joins rights mates frontier head =
+abbrev pub ReachesFrom : Joins → ℕ → MatesView → FrontierView → ℕ → Type 0
+ReachesFrom joins rights mates frontier head =
     ReachesOwners joins mates.mates frontier.lefts (slice_index frontier.lefts head) rights
 
 -- the right is free for the left at the place
@@ -125,7 +125,7 @@ IsFreeAt joins rights mates frontier way =
     IsFreeFor joins rights mates.mates (slice_index frontier.lefts way.place) way.right
 
 -- such a way, or none: then each right that is joined to a left reached is the mate of another
-abbrev pub IsWay : Joins → ℕ → MatesView → FrontierView → Option Way → Type 0
-IsWay joins rights mates frontier answer = MatchOption answer
-    (IsClosed joins rights mates.mates frontier.lefts (length frontier.lefts))
+abbrev pub IsAugmentingWay : Joins → ℕ → MatesView → FrontierView → Option Way → Type 0
+IsAugmentingWay joins rights mates frontier answer = MatchOption answer
+    (IsExplored joins rights mates.mates frontier.lefts (length frontier.lefts))
     (λ way. (way.place < length frontier.lefts) × IsFreeAt joins rights mates frontier way)

@@ -1,7 +1,7 @@
 //! The search for a free right, and the change of mates along the way to it.
 
 ghost use Rattle.std.specs.Prelude.{◌≡◌, ◌+◌, ◌<◌, ◌≤◌, length};
-ghost use Rattle.grid_core.specs.Augmenting.{AreJoined, IsReach, IsFreeRight, Reaches, IsWay, IsFreeAt, Extends};
+ghost use Rattle.grid_core.specs.Augmenting.{AreMatesJoined, IsFrontierOf, IsFreeRight, ReachesFrom, IsAugmentingWay, IsFreeAt, Extends};
 
 use crate::frontier::Frontier;
 use crate::mates::Mates;
@@ -30,11 +30,11 @@ fn reach_owners<E: Edges>(edges: &E, mates: &Mates, head: usize, frontier: &mut 
     requires root_in { length mates.now.mates < E.left_count edges.now }
     requires lefts_fit { E.left_count edges.now ≤ frontier.old.room }
     requires head_in { head < length frontier.old.lefts }
-    requires reach { IsReach (E.joins edges.now) mates.now.mates frontier.old }
+    requires reach { IsFrontierOf (E.joins edges.now) mates.now.mates frontier.old }
     ensures room { frontier.new.room ≡ frontier.old.room }
-    ensures reach { IsReach (E.joins edges.now) mates.now.mates frontier.new }
+    ensures reach { IsFrontierOf (E.joins edges.now) mates.now.mates frontier.new }
     ensures grown { Extends frontier.old.lefts frontier.new.lefts }
-    ensures owners { Reaches (E.joins edges.now) (E.right_count edges.now)
+    ensures owners { ReachesFrom (E.joins edges.now) (E.right_count edges.now)
         mates.now frontier.new head }
 {
     let left = frontier.left(head);
@@ -62,8 +62,8 @@ pub(crate) fn explore<E: Edges>(edges: &E, mates: &Mates, frontier: &mut Frontie
     requires lefts_fit { E.left_count edges.now ≤ frontier.old.room }
     requires rights_fit { E.right_count edges.now ≤ mates.now.room }
     ensures room { frontier.new.room ≡ frontier.old.room }
-    ensures reach { IsReach (E.joins edges.now) mates.now.mates frontier.new }
-    ensures found { IsWay (E.joins edges.now) (E.right_count edges.now)
+    ensures reach { IsFrontierOf (E.joins edges.now) mates.now.mates frontier.new }
+    ensures found { IsAugmentingWay (E.joins edges.now) (E.right_count edges.now)
         mates.now frontier.new result }
 {
     frontier.clear();
@@ -81,16 +81,16 @@ pub(crate) fn explore<E: Edges>(edges: &E, mates: &Mates, frontier: &mut Frontie
 
 /// Gives the free right to the left at its place, that left's mate to its parent, on to the root.
 pub(crate) fn shift<E: Edges>(edges: &E, frontier: &Frontier, way: Way, mates: &mut Mates)
-    requires joined { AreJoined (E.joins edges.now) (E.right_count edges.now) mates.old.mates }
+    requires joined { AreMatesJoined (E.joins edges.now) (E.right_count edges.now) mates.old.mates }
     requires rights_fit { E.right_count edges.now ≤ mates.old.room }
     requires root_fits { length mates.old.mates < mates.old.room }
-    requires reach { IsReach (E.joins edges.now) mates.old.mates frontier.now }
+    requires reach { IsFrontierOf (E.joins edges.now) mates.old.mates frontier.now }
     requires place_in { way.place < length frontier.now.lefts }
     requires free { IsFreeAt (E.joins edges.now) (E.right_count edges.now)
         mates.old frontier.now way }
     ensures room { mates.new.room ≡ mates.old.room }
     ensures more { length mates.new.mates ≡ length mates.old.mates + 1 }
-    ensures joined { AreJoined (E.joins edges.now) (E.right_count edges.now) mates.new.mates }
+    ensures joined { AreMatesJoined (E.joins edges.now) (E.right_count edges.now) mates.new.mates }
 {
     let Way {
         mut place,

@@ -20,7 +20,7 @@ pub(crate) struct Frontier {
 
 impl Model for Frontier {
     ghost use Rattle.std.specs.Prelude.{◌≡◌, ◌≤◌, vec_len, take};
-    ghost use Rattle.grid_core.specs.Augmenting.{FrontierView, AreReached};
+    ghost use Rattle.grid_core.specs.Augmenting.{FrontierView, AreLeftsReached};
 
     ghost Value = { FrontierView };
 
@@ -32,7 +32,7 @@ impl Model for Frontier {
 
     ghost invariant = { λ r. (r.count ≤ vec_len r.seen)
         × (vec_len r.queue ≡ vec_len r.seen) × (vec_len r.parents ≡ vec_len r.seen)
-        × AreReached r.seen.items (take r.count r.queue.items) };
+        × AreLeftsReached r.seen.items (take r.count r.queue.items) };
 }
 
 impl Frontier {

@@ -1,7 +1,7 @@
 //! The mates of lefts, and the lefts that own rights.
 
 ghost use Rattle.std.specs.Prelude.{◌≡◌, ◌+◌, ◌^◌, ◌<◌, IfOk, [], ◌∷◌, ◌++◌, length, slice_index, slice_set};
-ghost use Rattle.grid_core.specs.Augmenting.{IsFree, AreOwn, IsOwner};
+ghost use Rattle.grid_core.specs.Augmenting.{IsFree, AreOwnMates, IsOwner};
 
 use crate::fixed::Fixed;
 use std::alloc::{AllocError, Global};
@@ -51,7 +51,7 @@ impl Mates {
     /// How many lefts have a mate, each its own.
     pub(crate) fn count(&self) -> usize
         ensures count { result ≡ length self.now.mates }
-        ensures own { AreOwn self.now.mates result }
+        ensures own { AreOwnMates self.now.mates result }
     {
         self.count
     }

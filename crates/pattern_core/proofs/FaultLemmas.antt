@@ -3,7 +3,7 @@ use Rattle.pattern_core.proofs.Common.{AllByRecursion, Bool, HasClue, IsClosedGr
 use Rattle.pattern_core.specs.LineRules.{LawfulPattern, is_pattern_solution}
 use Rattle.grid_core.specs.Grids.{IsGrid}
 use Rattle.gameid_core.specs.FirstFailed.{NoneFails}
-use Rattle.gameid_core.proofs.FirstFailed.{IsKnown, IsMade, Kind, all_each, each, first_each, first_front, first_rest, known_tests, none_held, right_none}
+use Rattle.gameid_core.proofs.FirstFailed.{IsKnown, IsKindMade, TestKind, all_each, each, first_each, first_front, first_rest, known_tests, none_held, right_none}
 use Rattle.pattern_core.specs.Solutions.{FailsPattern, IsPatternFault, IsPatternSolution, pattern_tests}
 use Rattle.pattern_core.specs.declared.fault.PatternFault.{PatternFault}
 use Rattle.pattern_core.specs.declared.fault.PatternFault.TheVariants.{Column, Row}
@@ -36,13 +36,13 @@ module _ (p : Pattern) (g : List ℕ) where
   right : (line : ℕ) → is_right line ≡ true → HasClue p g line
   right line on = has_runs-is (clue_of p line) _ on
 
-  abbrev columns : Kind PatternFault
+  abbrev columns : TestKind PatternFault
   columns = record { test = Column; count = p.size.w; right = is_right }
 
-  abbrev rows : Kind PatternFault
+  abbrev rows : TestKind PatternFault
   rows = record { test = Row; count = p.size.h; right = λ y. is_right (p.size.w + y) }
 
-  made : AllByRecursion (IsMade (FailsPattern p g)) (columns ∷ rows ∷ [])
+  made : AllByRecursion (IsKindMade (FailsPattern p g)) (columns ∷ rows ∷ [])
   made = (
     record { failed = λ x lt. not_right x; held = λ x lt on fails. fails (right x on) },
     (record { failed = λ y lt. not_right (p.size.w + y); held = λ y lt on fails. fails (right (p.size.w + y) on) }, tt),

@@ -1,5 +1,5 @@
 -- Pairings of the cells with values, and how they go on.
-use Rattle.solo_core.proofs.Common.{AreDifferent, Bool, GoesOn, IsBegun, IsOutside, IsPaired, IsRest, IsShort, IsShownBy, KeepsFillings, List, PairsCells, [], ap, append-nil, arith, cases_Bool, cases_eq, cases_lt, common_steps, cond, different-filter, eq-eqb, eqb, eqb-true, false, false_from_ne_true, filter_of_map_range_with_len_more, get_or, get_or-map, get_or-map-range_with_len, get_or-range_with_len, get_or_past, has_bit, has_in, has_place, has_place-at, has_place-here, has_value, inl, inr, is_struck, length, length-map, length-map-range_with_len, length-range_with_len, map, map-id, nat_tests, no_choice, no_repeat, no_repeat_from_different, not, not-true, not_from_false, own_from_no_repeat, place-filter, place-kept, range_with_len, refl, rest_of, set, set_of_bits, shown_from_test, slice_index, suc, sym, take, take-set, take_more_set, test_from_shown, true, true_from_ne_false, true≢false, zero, ℕ, ◌++◌, ◌+◌, ◌<◌, ◌∙◌, ◌∷◌, ◌≡◌, ◌≤◌, ◌⊎◌}
+use Rattle.solo_core.proofs.Common.{AreDifferent, Bool, PairsOneMore, IsBegun, IsOutside, IsPaired, IsRest, IsShortRest, IsShownBy, KeepsFillings, List, PairsCells, [], ap, append-nil, arith, cases_Bool, cases_eq, cases_lt, common_steps, cond, different-filter, eq-eqb, eqb, eqb-true, false, false_from_ne_true, filter_of_map_range_with_len_more, get_or, get_or-map, get_or-map-range_with_len, get_or-range_with_len, get_or_past, has_bit, has_in, has_place, has_place-at, has_place-here, has_value, inl, inr, is_struck, length, length-map, length-map-range_with_len, length-range_with_len, map, map-id, nat_tests, no_choice, no_repeat, no_repeat_from_different, not, not-true, not_from_false, own_from_no_repeat, place-filter, place-kept, range_with_len, refl, rest_of, set, set_of_bits, shown_from_test, slice_index, suc, sym, take, take-set, take_more_set, test_from_shown, true, true_from_ne_false, true≢false, zero, ℕ, ◌++◌, ◌+◌, ◌<◌, ◌∙◌, ◌∷◌, ◌≡◌, ◌≤◌, ◌⊎◌}
 use mir.Val.{bool_byte}
 
 -- A pairing of the cells with values is a filling without repeat, and a short set rules out every one. The values of the cells that
@@ -142,7 +142,7 @@ module _ (n : ℕ) (sets rest : List ℕ) (r : IsRest n sets rest) where
   joins l v = has_in sets (slice_index rest l) v
 
   -- where the rest has no pairing, the house has none
-  pub no_pairing : (xs mates : List ℕ) → IsShort n sets rest xs → PairsCells n sets mates → ⊥
+  pub no_pairing : (xs mates : List ℕ) → IsShortRest n sets rest xs → PairsCells n sets mates → ⊥
   no_pairing xs mates short p = no_choice joins (length rest) n xs short (λ l. slice_index mates (slice_index rest l))
       (λ l lt. p.in_range (slice_index rest l) (r.within l lt))
       (λ l lt. p.joined (slice_index rest l) (r.within l lt))
@@ -232,7 +232,7 @@ module _ (n : ℕ) (sets rest : List ℕ) where
   }
 
   pub goes_on_free : (k : ℕ) {mate new : ℕ → ℕ} {free value : ℕ} → IsBegun n sets rest k mate free → ((l : ℕ) → l < k → new l ≡ mate l) → new k ≡ value
-      → value < n → has_in sets (slice_index rest k) value ≡ true → has_bit free value ≡ true → GoesOn n sets rest k new free value
+      → value < n → has_in sets (slice_index rest k) value ≡ true → has_bit free value ≡ true → PairsOneMore n sets rest k new free value
   goes_on_free k {free} b same is low has unused = (
     low,
     λ left inside off.
@@ -263,7 +263,7 @@ module _ (n : ℕ) (sets rest : List ℕ) where
     no_mate l lt e = grind (arith, nat_tests, no_free j lj, b.own l j lt lj)
 
     pub goes_on_swapped : {new : ℕ → ℕ} → new k ≡ mate j → new j ≡ value → ((l : ℕ) → l < k → (l ≡ j → ⊥) → new l ≡ mate l)
-        → has_in sets (slice_index rest k) (mate j) ≡ true → GoesOn n sets rest k new free value
+        → has_in sets (slice_index rest k) (mate j) ≡ true → PairsOneMore n sets rest k new free value
     unfolding changed
     goes_on_swapped last here other there = (
       low,

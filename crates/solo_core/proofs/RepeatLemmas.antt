@@ -4,7 +4,7 @@ use Rattle.solo_core.specs.declared.fault.SoloFault.{SoloFault}
 use Rattle.std.specs.List.{AllByRecursion}
 use Rattle.std.proofs.lemmas.List.Elements.{All-map, recursion_from_All}
 use Rattle.gameid_core.specs.FirstFailed.{IsFirstFailed, IsFirstOf, NoneFails}
-use Rattle.gameid_core.proofs.FirstFailed.{Holds, IsKnown, IsMade, Kind, all_split, each, first_at, first_each, first_front, first_rest, known_tests, none_held, none_tells, right_none}
+use Rattle.gameid_core.proofs.FirstFailed.{Holds, IsKnown, IsKindMade, TestKind, all_split, each, first_at, first_each, first_front, first_rest, known_tests, none_held, none_tells, right_none}
 use Rattle.gameid_core.proofs.LineLaws.{AllByRecursion-append, all_at}
 
 -- where the numbers repeat, two entries are equal
@@ -102,10 +102,10 @@ module _ (p : Solo) (ok : IsSolo p) (g : List ℕ) where
       subst Holding (get_or-map fault_of (houses_of p) h d (fault_of d) lt)
       (all_at Holding (fault_of d) (house_tests p) h none (rw length-map lt))
 
-  abbrev givens : Kind SoloFault
+  abbrev givens : TestKind SoloFault
   givens = record { test = Given; count = solo_cells p; right = given_stands p g }
 
-  made : AllByRecursion (IsMade (FailsSolo p g)) (givens ∷ [])
+  made : AllByRecursion (IsKindMade (FailsSolo p g)) (givens ∷ [])
   made = grind (arith, common_steps, nat_tests, given_from_test)
 
   abbrev no_repeat_in : NamedHouse → Bool

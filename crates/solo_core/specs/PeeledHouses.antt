@@ -78,8 +78,8 @@ has_in_rest sets rest l value = has_in sets (slice_index rest l) value
 abbrev pub IsPaired : ℕ → List ℕ → List ℕ → List ℕ → Type 0
 IsPaired n sets rest mates = IsPairing (has_in_rest sets rest) (length rest) n mates
 
-abbrev pub IsShort : ℕ → List ℕ → List ℕ → List ℕ → Type 0
-IsShort n sets rest short = IsShortSet (has_in_rest sets rest) (length rest) n short
+abbrev pub IsShortRest : ℕ → List ℕ → List ℕ → List ℕ → Type 0
+IsShortRest n sets rest short = IsShortSet (has_in_rest sets rest) (length rest) n short
 
 -- the mate of each cell of the rest leads to the cell's values
 abbrev pub LeadByMates : List ℕ → List ℕ → List ℕ → List ℕ → Type 0

@@ -12,8 +12,8 @@ pub record IsBegun (n : ℕ) (sets rest : List ℕ) (first : ℕ) (mate : ℕ �
   pub taken : (l : ℕ) → l < first → has_bit free (mate l) ≡ false
 
 -- one cell more has a value, where this value is free no more
-abbrev pub GoesOn : ℕ → List ℕ → List ℕ → ℕ → (ℕ → ℕ) → ℕ → ℕ → Type 0
-GoesOn n sets rest first mate free value = (value < n)
+abbrev pub PairsOneMore : ℕ → List ℕ → List ℕ → ℕ → (ℕ → ℕ) → ℕ → ℕ → Type 0
+PairsOneMore n sets rest first mate free value = (value < n)
     × ((left : ℕ) → ((v : ℕ) → has_bit left v ≡ true → has_bit free v ≡ true)
     → has_bit left value ≡ false → IsBegun n sets rest (first + 1) mate left)
 
@@ -28,4 +28,4 @@ FirstPaired graph first mates free =
 
 abbrev pub OneMorePaired : CellValueGraph → ℕ → List ℕ → ℕ → Option ℕ → Type 0
 OneMorePaired graph first mates free value = MatchOption value (Unit {0})
-    (GoesOn graph.values graph.sets.now graph.rest.now first (slice_index mates) free)
+    (PairsOneMore graph.values graph.sets.now graph.rest.now first (slice_index mates) free)

@@ -1,5 +1,5 @@
 -- The laws that every rule set keeps to, for the rule sets of Solo.
-use Rattle.std.proofs.Common.{◌≡◌, ℕ, ◌*◌, ◌<◌, Bool, true, false, List, ◌++◌, map, length, get_or, slice_index, refl, sym, ◌∙◌, arith, All}
+use Rattle.std.proofs.Common.{◌≡◌, ℕ, ◌*◌, ◌<◌, Bool, true, false, List, ◌++◌, map, length, get_or, slice_index, sym, ◌∙◌, arith, All}
 use Rattle.solo_core.specs.Common.{range_with_len, and_parts, ltb-true, true≢false, nat_tests, mul-le, get_or-map, length-map, All-append, All-map, IsInside, IsWithin, single, IsGrid, Solo, IsSolo, solo_n, IsLawful, Decision, IsMonotone, House, IsSettled, Keeps, IsSound, IsSetting, NamedHouse, Row, Column, Block, solo_cells, houses_of, IsHouseOf, places_of, numbers_of, is_solo_solution, no_repeat}
 use Rattle.grid_core.proofs.GridLemmas.{single-is}
 use Rattle.engine_core.specs.HouseSetsLaws.{by_fillings-monotone}

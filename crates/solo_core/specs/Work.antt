@@ -19,8 +19,8 @@ HasBegun more old new = new ≡ record { closed = old.closed; begun = old.begun 
 abbrev pub HasClosed : List ℕ → Listed → Listed → Type 0
 HasClosed places = HasAdded (places ∷ [])
 
-abbrev pub Begins : List ℕ → Listed → Listed → Type 0
-Begins places old new = new ≡ record { closed = old.closed; begun = places }
+abbrev pub BeginsList : List ℕ → Listed → Listed → Type 0
+BeginsList places old new = new ≡ record { closed = old.closed; begun = places }
 
 -- so many places, the first and each a step after the one before
 abbrev pub strided : ℕ → ℕ → ℕ → List ℕ

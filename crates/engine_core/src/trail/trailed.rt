@@ -2,7 +2,7 @@
 #![tactic(auto, using(crate::proofs::LawSets::trail_laws))]
 
 ghost use Rattle.std.specs.Prelude.{◌≡◌, ◌≢◌, ℕ, ◌+◌, ◌*◌, ◌<◌, ◌≤◌, IfOk, bit_and, length, true, false};
-ghost use Rattle.engine_core.specs.Common.{has, cells_of, SameShape, count_below, only, max_cells, max_values, IsAlive, IsDeadAfter, KeepsChanges, AreSetsOf, IsKept, IsBoardOf, after, IsBitsOf, back_at, change_at, left_by, IsTrailLonger, IsTrailBack, IsStruck};
+ghost use Rattle.engine_core.specs.Common.{has, cells_of, SameShape, count_below, only, max_cells, max_values, IsAlive, IsDeadAfter, KeepsChanges, AreSetsOf, IsKept, IsBoardOf, after, IsBitsOf, back_at, change_at, left_by, IsTrailLonger, IsTrailBack, IsHouseStruck};
 
 use crate::rules::Rules;
 use grid_core::{Board, Fixed};
@@ -100,7 +100,7 @@ impl TrailedBoard {
         requires kept { IsKept (R.system rules.now) house (has self.old.board) true kept.now }
         requires as_many { length kept.now ≡ length sets.now }
         ensures dead { result ≡ true → IsDeadAfter (R.system rules.now) house (has self.old.board) }
-        ensures struck { result ≡ false → IsStruck (R.system rules.now) house self.old self.new }
+        ensures struck { result ≡ false → IsHouseStruck (R.system rules.now) house self.old self.new }
         ensures further { IsTrailLonger self.old self.new }
     {
         for k in 0..sets.len() {

@@ -19,7 +19,8 @@ fn read_row<'a, P: Readable>(
     requires cells { length grid.old ≡ (P.extent puzzle.now).w * (P.extent puzzle.now).h }
     requires row { y < (P.extent puzzle.now).h }
     ensures cells { length grid.new ≡ length grid.old }
-    ensures fit { IfSome result (λ rest. IsRowFit P.Printed P.hides puzzle.now y grid.old grid.new) }
+    ensures fit { IfSome result (λ rest.
+        IsRowFit P.Printed P.hides puzzle.now y grid.old grid.new) }
     ensures read { IsRowRead P.Printed P.hides puzzle.now y text.now grid.old grid.new result }
 {
     let w = puzzle.columns();

@@ -1,3 +1,5 @@
+//! The cells of a puzzle of Light Up.
+
 /// A cell of a puzzle of Light Up.
 #[derive(Clone, Copy, Debug, PartialEq, Eq)]
 pub enum LightCell {

@@ -131,7 +131,8 @@ fn push_clue(out: &mut String, clue: &[u8]) -> Result<(), AllocError>
 /// Writes the clues with '/' between them.
 #[tactic(auto, using(crate::proofs::LineLaws::joins))]
 fn push_clues(out: &mut String, puzzle: &PatternPuzzle) -> Result<(), AllocError>
-    ensures { OnOk result (Adds (join_with_byte 47 (map clue_text puzzle.now.clues)) out.old out.new) }
+    ensures { OnOk result
+        (Adds (join_with_byte 47 (map clue_text puzzle.now.clues)) out.old out.new) }
 {
     for line in 0..puzzle.lines() {
         if line > 0 {

@@ -42,7 +42,8 @@ pub trait Word: Copy + Drop {
 
     /// The places that just one of the two has.
     fn differ(self, other: Self) -> Self
-        ensures { AreBits (bits result) (λ p. differ (has_bit (bits self) p) (has_bit (bits other) p)) };
+        ensures { AreBits (bits result)
+            (λ p. differ (has_bit (bits self) p) (has_bit (bits other) p)) };
 
     /// The places but the other's.
     fn but(self, other: Self) -> Self

@@ -6,7 +6,7 @@ ghost use Rattle.engine_core.specs.HouseList.{FitsPlaces};
 ghost use Rattle.grid_core.specs.Candidates.{max_values};
 ghost use Rattle.grid_core.specs.Regions.{block_places};
 ghost use Rattle.solo_core.specs.Common.{IsSolo, house_places, solo_n};
-ghost use Rattle.solo_core.specs.Work.{Begins, HasBegun, closed_lists, strided};
+ghost use Rattle.solo_core.specs.Work.{BeginsList, HasBegun, closed_lists, strided};
 
 use crate::houses::places::houses;
 use engine_core::HouseList;
@@ -32,7 +32,7 @@ fn push_line(
     Ok(())
 }
 
-/// Begins a list with the places of a block: its rows, one after another.
+/// BeginsList a list with the places of a block: its rows, one after another.
 pub(crate) fn push_block(
     list: &mut HouseList,
     puzzle: &SoloPuzzle,
@@ -42,7 +42,7 @@ pub(crate) fn push_block(
     requires closed { list.old.begun ≡ [] }
     ensures lawful { IsSolo puzzle.now }
     ensures begun { OnOk result
-        (Begins (block_places puzzle.now.c puzzle.now.r b) list.old list.new) }
+        (BeginsList (block_places puzzle.now.c puzzle.now.r b) list.old list.new) }
 {
     let c = usize::from(puzzle.c());
     let r = usize::from(puzzle.r());

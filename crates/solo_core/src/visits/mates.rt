@@ -2,7 +2,7 @@
 
 ghost use Rattle.std.specs.Prelude.{◌≡◌, ◌≤◌, length, take};
 ghost use Rattle.grid_core.specs.Candidates.{max_values};
-ghost use Rattle.solo_core.specs.PeeledHouses.{IsPaired, IsShort, meets, rest_of, AreCellsOf};
+ghost use Rattle.solo_core.specs.PeeledHouses.{IsPaired, IsShortRest, meets, rest_of, AreCellsOf};
 
 use crate::visits::graph::CellValueGraph;
 use crate::visits::quick::pair_quickly;
@@ -43,7 +43,7 @@ pub(crate) fn pair_rest(
     requires paired_room { length paired.old ≡ length rest.now }
     ensures room { pairing.new.room ≡ pairing.old.room }
     ensures all { result ≡ Paired.All → IsPaired values sets.now rest.now paired.new }
-    ensures short { result ≡ Paired.Short → IsShort values sets.now rest.now pairing.new.short }
+    ensures short { result ≡ Paired.Short → IsShortRest values sets.now rest.now pairing.new.short }
 {
     let graph = CellValueGraph { sets, rest, values };
     if pair_quickly(&graph, paired) {

@@ -1,5 +1,5 @@
 use Rattle.grid_core.proofs.Common.{arith, ◌∙◌}
-use Rattle.grid_core.proofs.PairingLemmas.{IsClosed-step}
+use Rattle.grid_core.proofs.PairingLemmas.{IsExplored-step}
 use Rattle.grid_core.proofs.augmenting.explore.Goals as goal
 
 pub loop-head-preserved : goal.loop-head-preserved
@@ -11,6 +11,6 @@ loop-head-preserved g c =
       e.room ∙ i.0,
       omega arith,
       e.reach,
-      IsClosed-step _ _ (omega arith) i.3 e.grown
+      IsExplored-step _ _ (omega arith) i.3 e.grown
           (rw c.left.ensures.left at c.in_default.ensures) e.owners,
     )

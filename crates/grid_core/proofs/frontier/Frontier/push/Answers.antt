@@ -1,5 +1,5 @@
 use Rattle.grid_core.proofs.Common.{arith}
-use Rattle.grid_core.proofs.PairingLemmas.{room_for_left, AreReached-write, view-write}
+use Rattle.grid_core.proofs.PairingLemmas.{room_for_left, AreLeftsReached-write, view-write}
 use Rattle.grid_core.proofs.frontier.Frontier.push.Goals as goal
 
 pub index_mut-requires-2 : goal.index_mut-requires-2
@@ -19,7 +19,7 @@ invariant_of-self c =
       omega arith,
       old.1,
       old.2,
-      AreReached-write _ _ c.self.view_is old.3 (omega arith) (omega arith) c.requires.left_in c.requires.new (omega arith),
+      AreLeftsReached-write _ _ c.self.view_is old.3 (omega arith) (omega arith) c.requires.left_in c.requires.new (omega arith),
     )
 
 pub returns : goal.returns

@@ -1,5 +1,5 @@
 use Rattle.grid_core.proofs.Common.{FrontierView, List, ap, arith, common_steps, drop, length, sym, take, vec_len, ℕ, ◌++◌, ◌≡◌}
-use Rattle.grid_core.proofs.PairingLemmas.{AreReached-sort, ascending}
+use Rattle.grid_core.proofs.PairingLemmas.{AreLeftsReached-sort, ascending}
 use Rattle.grid_core.proofs.frontier.Frontier.sort.Goals as goal
 
 -- a list that is written over another as long
@@ -16,7 +16,7 @@ invariant_of-self c =
       old.1,
       old.2,
       rw (written (vec_len i.queue) c.sort_first.new.entries i.queue.items c.deref_mut.result.now s.as_long (omega arith) value)
-          (AreReached-sort (take i.count c.sort_first.new.entries) old.3
+          (AreLeftsReached-sort (take i.count c.sort_first.new.entries) old.3
           (rw (sym value) s.same) s.sorted),
     )
 

@@ -1,10 +1,10 @@
 use Rattle.grid_core.proofs.Common.{all_of, arith, layers_of, length, length-map, sym, taking_of, ◌*◌, ◌∙◌, ◌≡◌}
-use Rattle.grid_core.proofs.PlaneSteps.{IsBegun, begun, none-beyond}
+use Rattle.grid_core.proofs.PlaneSteps.{ArePlanesBegun, begun, none-beyond}
 use Rattle.grid_core.proofs.planes.Planes.begin.Goals as goal
 use Rattle.grid_core.proofs.planes.Planes.begin.Goals.{After-write_lines-2}
 
 filled : (g : _) (c : After-write_lines-2 g)
-    → IsBegun g.W.Word.room c.args.size (all_of (c.args.size.w * c.args.size.h) 2)
+    → ArePlanesBegun g.W.Word.room c.args.size (all_of (c.args.size.w * c.args.size.h) 2)
     (layers_of g.W.Word.bits c.args.size c.write_lines.new.words.items c.write_lines-2.new.words.items c.self.inside.changes.items 0)
 filled g c =
     let p = c.self.inside in

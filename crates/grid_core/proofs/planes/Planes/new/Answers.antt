@@ -1,10 +1,10 @@
 use Rattle.grid_core.proofs.Common.{all_of, ap, arith, layers_of, length, length-replicate, ◌*◌, ◌∙◌}
-use Rattle.grid_core.proofs.PlaneSteps.{IsBegun, begun, none-anywhere}
+use Rattle.grid_core.proofs.PlaneSteps.{ArePlanesBegun, begun, none-anywhere}
 use Rattle.grid_core.proofs.planes.Planes.new.Goals as goal
 use Rattle.grid_core.proofs.planes.Planes.new.Goals.{In_ok-copies}
 
 filled : (g : _) (c : In_ok-copies g)
-    → IsBegun g.W.Word.room c.args.size (all_of (c.args.size.w * c.args.size.h) 2)
+    → ArePlanesBegun g.W.Word.room c.args.size (all_of (c.args.size.w * c.args.size.h) 2)
     (layers_of g.W.Word.bits c.args.size c.write_lines.new.words.items c.write_lines-2.new.words.items c.in_ok-copies.field-0.items 0)
 filled g c =
     begun g.W.Word.bits g.W.Word.room c.args.size c.all.result c.all-2.result c.in_ok-copies.field-0.items c.w.ensures.lawful c.requires.narrow c.requires.low

@@ -1,5 +1,5 @@
 use Rattle.grid_core.proofs.Common.{arith, layers_of, length-map, set, taking_of, ◌+◌}
-use Rattle.grid_core.proofs.PlaneLemmas.{IsTaken, room_to_note, taking_in}
+use Rattle.grid_core.proofs.PlaneLemmas.{ArePlanesTaken, room_to_note, taking_in}
 use Rattle.grid_core.proofs.TakingLemmas.{takings-len}
 use Rattle.grid_core.proofs.PlaneSteps.{take_step, room_at}
 use Rattle.grid_core.proofs.planes.Planes.take_all.Goals as goal
@@ -22,7 +22,7 @@ turn_line-requires g c =
     room_at _ c.self.inside c.self.invariant _ (taking_in _ _ _ c.self.invariant (rw (← c.self.view_is) at c.requires))
 
 step : (g : _) (c : After-turn_line g)
-    → IsTaken g.W.Word.room
+    → ArePlanesTaken g.W.Word.room
     (layers_of g.W.Word.bits c.self.inside.size c.self.inside.rows.items c.self.inside.columns.items c.self.inside.changes.items c.self.inside.len)
     (layers_of g.W.Word.bits c.self.inside.size c.turn_line.new.rows.items c.turn_line.new.columns.items
     (set c.self.inside.changes.items c.self.inside.len (record { line = c.args.line; value = c.args.value; bits = c.args.bits })) (c.self.inside.len + 1))

@@ -51,7 +51,7 @@ loop-house-preserved g c =
       visits = i.visits ++ c.in-Some.house ∷ [];
       counted = omega (arith, length-append i.visits (c.in-Some.house ∷ []), i.counted);
       running =
-          running-turn _ (g.met.S.RuleSet.lawful _ (g.met.S.RuleSet.knows set)) _ i.visits _ _ _ _ _ i.running v.0 v.1
+          running-turn _ (g.met.S.RuleSet.lawful _ (g.met.S.RuleSet.knows set)) _ i.visits _ _ _ _ c.in-Some.house i.running v.0 v.1
           (within_of _ _ i.along.board_of) s.0 s.2 s.1;
       along = e.along;
       onward = on-more i.onward e.onward;

@@ -1,12 +1,12 @@
 use Rattle.engine_core.proofs.Common.{arith, get_or-set_other, get_or-set_same, length-set, ◌<◌}
 use Rattle.engine_core.proofs.QueueLemmas.{left-is}
-use Rattle.engine_core.proofs.TrailLemmas.{IsLeft, left-noted, trail-len}
+use Rattle.engine_core.proofs.TrailLemmas.{IsCellLeft, left-noted, trail-len}
 use Rattle.engine_core.proofs.trail.trailed.TrailedBoard.leave.Goals as goal
 use Rattle.engine_core.proofs.trail.trailed.TrailedBoard.leave.Goals.{After-retain}
 
 -- what the change leaves
 noted : (g : _) (c : After-retain g)
-    → IsLeft (g.R.Rules.system c.args.rules.now) c.self.inside.board c.retain.new.self
+    → IsCellLeft (g.R.Rules.system c.args.rules.now) c.self.inside.board c.retain.new.self
     c.self.inside.changes.items c.self.inside.len c.args.place c.args.before c.args.left
 noted g c =
     let r = rw (← c.self.view_is) at c.requires in
