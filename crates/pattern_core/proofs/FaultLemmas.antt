@@ -9,6 +9,7 @@ use Rattle.pattern_core.specs.declared.fault.PatternFault.{PatternFault}
 use Rattle.pattern_core.specs.declared.fault.PatternFault.TheVariants.{Column, Row}
 
 -- The tests of all lines.
+
 -- what the tests of all lines say
 pub ruleset line_tests = (is_solution-line, all_below-from, has_runs-is, has_runs-from, solution_from_lines)
 
@@ -26,6 +27,7 @@ closed_solution r {g} grid =
     (λ c less. grid.fits.each_value c 0 less) (λ c v. grid.closed line c v lt))
 
 -- A grid that no test of a line fails is a solution, and the first line that fails is what a check tells.
+
 module _ (p : Pattern) (g : List ℕ) where
   abbrev is_right : ℕ → Bool
   is_right line = has_runs (clue_of p line) (line_numbers p.size g line)

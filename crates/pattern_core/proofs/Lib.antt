@@ -4,5 +4,5 @@ pub mod LineTakings
 pub mod SpelledRuns
 pub mod LineWords
 pub mod TableSteps
-pub mod Roomy
+pub mod RoomyLines
 pub mod WaitingLines

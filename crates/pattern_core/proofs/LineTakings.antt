@@ -12,6 +12,7 @@ use Rattle.engine_core.proofs.JudgeLemmas.{scope_le-longest}
 use Rattle.pattern_core.proofs.LineWords.{length-sets, set-small, sets-bit, word_of}
 
 -- What is taken from a line of planes, and what its house strikes.
+
 -- ---- the cells of a line
 abbrev pub cell_of : Extent → Line → ℕ → ℕ
 cell_of size (Row y) k = y * size.w + k
@@ -255,6 +256,7 @@ both-taken p0 p1 p2 t0 t1 f0 f1 e1 e2 =
     ∙ ap₂ (λ w K. without_taking w K t1) (ap (λ (s : Extent). s.w) (f1 ∙ f0)) (e1 ∙ ap (λ w. without_taking w (has p0) t0) (ap (λ (s : Extent). s.w) f0))
 
 -- A visit of a line, from its three steps, and the clues that it reads.
+
 -- a visit that strikes what is not kept of decided sets leaves the board that the rules say
 pub decided-after : {p : RuleSystem} → IsLawful p → {h : ℕ} (decides : Decision) {K : Candidates} {sets kept : List ℕ} → h < p.houses
     → ((L : Candidates) (c v : ℕ) → p.strikes h L c v ≡ strikes_at p.values (p.scope h) decides L c v)

@@ -8,6 +8,7 @@ use Rattle.grid_core.proofs.WordLemmas.{either-bits, power-bits, zero-bits}
 use Rattle.std.proofs.lemmas.List.FromFn.{get_or-map-range_with_len, length-map-range_with_len}
 
 -- Words as sets of places.
+
 -- one place on, of those that there are
 pub on_within : (n : ℕ) (at new : ℕ → Bool) → ((p : ℕ) → new p ≡ (ltb p n && (ltb 0 p && at (p - 1)))) → (p : ℕ) → p < n → new p ≡ one_on at p
 unfolding one_on
@@ -37,6 +38,7 @@ unfolding led
 led_words t set reached next p is = ap (λ f. (stays t set p && reached p) || one_on f p) (fun_ext is)
 
 -- The cells of a line as words, and as sets.
+
 -- ---- the sets of so many cells
 pub length-sets : (white black count : ℕ) → length (sets_by white black count) ≡ count
 length-sets white black count = length-map-range_with_len (set_at white black) 0 count

@@ -3,6 +3,7 @@ use Rattle.pattern_core.proofs.Common.{AllByRecursion, ArePositive, IsIdle, IsRo
 
 -- A line of cells that may be either, longer than its clue needs by as much as each run is: each of its cells is white in some
 -- filling, and black in some.
+
 -- cells of such a number that have these runs
 pub record Fitting (clue : List ℕ) (n : ℕ) : Type 0 where
   pub cells : List ℕ
@@ -184,6 +185,7 @@ nothing_struck clue sets k {v} {s} p some most one room both lt low = by clue v 
     by clue (suc (suc v)) p some most room low = absurd (omega arith)
 
 -- A line of the board that a search starts from strikes nothing, where it is roomy for its clue.
+
 -- a clue's spelled length and its longest run tell from where on a line is roomy
 pub roomy : {clue : List ℕ} (cells longest n : ℕ) → ArePositive clue → 0 < length clue
     → ((k : ℕ) → k < length clue → get_or clue k 0 ≤ longest) → cells ≡ used clue → cells + longest - 1 ≤ n → IsRoomy clue n

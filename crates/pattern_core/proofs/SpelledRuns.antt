@@ -1,9 +1,10 @@
 -- Spelled clues, and the lines that lead along them.
 use Rattle.pattern_core.proofs.Common.{ArePositive, Bool, IsBelow, IsSpelling, IsTrack, List, Set, Track, [], ahead, and-false, and-or_distrib_right, and_assoc, and_parts, any_below, any_below-here, any_below-some, any_cells, ap, append_assoc, ap₂, arith, cases_Bool, cases_eq, cases_lt, cell_is, cells_from, clue_along, common_steps, cond, drop, drop-drop, drop_more, eq-eqb, eqb, eqb-true, false, false_from_ne_true, false≢true, filling_from_test, fun_ext, get_or, get_or-drop, get_or_append_left, get_or_past, goes_on, has_bit, has_runs, inl, inr, le-leb, leads, leb, led, length, length-append, length-drop, length-replicate, lt-leb, may_stay, ne_eqb, not, one_on, or-false, or-true, or_cases, or_left, or_right, refl, replicate, replicate-append-replicate, runs, runs_after, set_for, some_filling, some_leads, spelled, stays, strikes_by_fillings, subst, suc, sym, test_from_filling, track_of, true, used, zero, ℕ, ◌&&◌, ◌++◌, ◌+◌, ◌-◌, ◌<◌, ◌||◌, ◌∙◌, ◌∷◌, ◌≡◌, ◌≤◌}
 use Rattle.std.specs.Cmp.Lexicographic.{pointwise}
-use Rattle.pattern_core.proofs.Roomy.{run_first}
+use Rattle.pattern_core.proofs.RoomyLines.{run_first}
 
 -- Fillings that lead along a track, cell by cell; and a line leads along the spelled clue to an end exactly where its runs are the clue.
+
 -- ---- by what is left of the spelled clue
 -- whether the cells go on to an end of what is left; `may` says whether a further white cell may come first
 matches : Bool → List ℕ → List ℕ → Bool
@@ -234,6 +235,7 @@ module _ {t : Track} (set n : ℕ) (below : IsBelow n t) (reached new way after 
       (λ on. let w = any_below-some (λ p. reached p && way p) n on in let u = and_parts _ _ w.2 in forth w.1 u.0 u.1)
 
 -- A clue spelled cell by cell, as sets of places, and read back from them.
+
 -- the cells with one more
 more_cells : (cells : List ℕ) (x p : ℕ) → (p ≡ length cells → ⊥) → get_or (cells ++ x ∷ []) p 2 ≡ get_or cells p 2
 more_cells cells x p ne = grind (arith, common_steps, cases_Bool, cases_lt, get_or_append_left, get_or_past, length-append)

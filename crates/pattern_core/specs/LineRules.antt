@@ -32,6 +32,7 @@ pub record LawfulPattern : Type 0 where
   pub extent : IsExtent pattern.size
 
 -- The clue of a line, whatever words it is spelled in.
+
 -- the clue's numbers
 abbrev pub numbers_in : LineClue → List ℕ
 numbers_in (Short clue) = clue

@@ -7,6 +7,7 @@ use Rattle.pattern_core.specs.declared.fault.PatternFault.{PatternFault}
 use Rattle.pattern_core.specs.declared.fault.PatternFault.TheVariants.{Column, Row}
 
 -- Which grids solve a puzzle of Pattern. A grid has 0 for a white cell and 1 for a black one.
+
 -- the lengths of the maximal black runs of each column, downwards, and of each row, rightwards, are its clue
 pub record IsPatternSolution (p : Pattern) (g : List ℕ) : Type 0 where
   pub grid : IsGrid (p.size.w * p.size.h) 2 g
@@ -22,6 +23,7 @@ AcceptsSolutions p rules = (g : List ℕ) → IsGrid (p.size.w * p.size.h) 2 g
 
 -- What is wrong with a grid of Pattern: the first line whose runs are not its clue, the columns from the left, and then the
 -- rows from the top.
+
 -- a line whose runs are not its clue
 abbrev pub FailsPattern : Pattern → List ℕ → PatternFault → Type 0
 FailsPattern p g (Column x) = HasClue p g x → ⊥

@@ -1,5 +1,5 @@
 use Rattle.pattern_core.proofs.Common.{ap, arith, cases_eq, common_steps, drop_more, get_or, inl, inr, used, ◌≤◌}
-use Rattle.pattern_core.proofs.Roomy.{roomy}
+use Rattle.pattern_core.proofs.RoomyLines.{roomy}
 use Rattle.pattern_core.proofs.track.measured.Goals as goal
 
 pub returns-clause-roomy : goal.returns-clause-roomy

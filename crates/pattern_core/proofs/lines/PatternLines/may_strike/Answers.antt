@@ -1,5 +1,5 @@
 use Rattle.pattern_core.proofs.Common.{ap, line_cells, not-false, ◌∙◌}
-use Rattle.pattern_core.proofs.Roomy.{start_idle}
+use Rattle.pattern_core.proofs.RoomyLines.{start_idle}
 use Rattle.pattern_core.proofs.lines.PatternLines.may_strike.Goals as goal
 
 pub returns : goal.returns
