@@ -5,6 +5,7 @@ use Rattle.maker_core.specs.declared.made.MakeFault.TheVariants.{Exhausted, Memo
 
 -- Where the closure of the start leaves each cell only its number of a solution, the verdict is that one, whatever the budget. So
 -- it is where the start is the solution alone, and then no other grid lies inside the start.
+
 pub found_one : (budget : ℕ) (g : List ℕ) → outcome budget None (Found g ∷ []) ≡ OneSolution g
 unfolding outcome
 found_one zero g = refl
@@ -50,6 +51,7 @@ module _ {p : RuleSystem} (laws : IsLawful p) {g : List ℕ} (solves : Solves p 
     )
 
 -- What a search says of the solutions of its rules it says of the solutions of the game, where the two agree.
+
 -- a grid that solves is the one of the verdict
 pub one_grid : {rules : RuleSystem} (g : List ℕ) {budget : ℕ} → HasOne rules budget → Solves rules g → IsOnly rules g × TellsOne rules budget g
 one_grid {rules} g {budget} one good = subst (λ h. IsOnly rules h × TellsOne rules budget h) (one.only.1 g good) (one.only, one.found)
@@ -76,6 +78,7 @@ pub two_have_none : (rules : RuleSystem) (budget : ℕ) → IsLawful rules → H
 two_have_none rules budget laws two = sym (two_fail rules _ (outcome-true rules laws budget) two)
 
 -- The loop over tries: so many fillings were made, and each failed.
+
 module _ {A : Type 0} (t : Tries A) (known : A → Bool → Type 0) (s : Stream) where
   -- so many tries were made, each failed, and the generator stands where the last left it
   pub record IsTrying (done : ℕ) (now : Stream) : Type 0 where

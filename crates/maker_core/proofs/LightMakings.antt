@@ -4,6 +4,7 @@ use Rattle.maker_core.proofs.WrittenGrids.{filter_laws, grid_with, no_one, old_s
 use Rattle.maker_core.proofs.FirstTries.{found_at_once, one_grid}
 
 -- The cells of a puzzle of Light Up, rewritten one by one.
+
 -- the cells below `place` are the new ones, and the others the old ones
 pub record IsRewritten (size : Extent) (new old : ℕ → LightCell) (place : ℕ) (p : Light) : Type 0 where
   pub sized : p.size ≡ size
@@ -48,6 +49,7 @@ pub bulbs_few : (p : Light) (g : List ℕ) (c : ℕ) → bulbs_beside p g c ≤ 
 bulbs_few p g c = omega (arith, count_by-le-length (bulb g) (beside p.size c), steps-few p.size c 4)
 
 -- Who sees whom; and that white cells which were taken in turn, in any order, hold or see a bulb, so the grid solves the puzzle with all numbers.
+
 -- ---- numbers change no colour
 pub number_at : (p : Light) (g : List ℕ) (c : ℕ) → c < light_cells p → get_or (with_numbers p g).cells c Black ≡ numbered_cell p g c
 unfolding with_numbers
@@ -206,6 +208,7 @@ lit_solved p order g long mixed is =
     (order_each p long mixed))
 
 -- What is drawn for a filling of Light Up is its definition.
+
 -- the white cells in any order
 pub order_within : (p : Light) {order : List ℕ} → IsPermutation (white_places p) order → length p.cells ≡ light_cells p
     → All (λ c. c < light_cells p) order
@@ -240,6 +243,7 @@ unfolding light_puzzle_of
 numbers_again size f long = again (lights_of size f.black) f.bulbs (black_long size f.black long)
 
 -- A puzzle of black cells alone passes; and what is known of the puzzle of a filling.
+
 -- ---- black cells alone
 start_black : (p : Light) (c v : ℕ) → white p c ≡ false → v < 2 → start_of (light_cells p) (λ d. not (white p d)) c v ≡ true → v ≡ 0
 unfolding start_of

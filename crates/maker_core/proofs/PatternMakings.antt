@@ -4,6 +4,7 @@ use Rattle.maker_core.proofs.FirstTries.{found_at_once}
 use Rattle.pattern_core.specs.LineLaws.{solution_from_lines}
 
 -- The cells of a grid that were drawn so far are the list of draws.
+
 -- the steps of the drawing
 black_cells-none : (black : ℕ) {s : Stream} → ([], s) ≡ black_cells black 0 s
 unfolding black_cells
@@ -61,6 +62,7 @@ black_cells-grid black (suc cells) s =
     }
 
 -- A grid of white cells alone, or of black cells alone, is all that one visit of each row leaves.
+
 -- 1 for a black cell, and how many cells are black
 abbrev black : ℕ → ℕ
 black v = cond (nat_lt 0 v) 1 0

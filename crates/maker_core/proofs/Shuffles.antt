@@ -4,6 +4,7 @@ use Rattle.maker_core.proofs.Common.{All-from_get_or, All-get_or, All-permutatio
 -- A shuffled list of numbers is an order of them, and groups of lines that are appended in such an order, each group's lines
 -- in such an order too, are an order of the lines that keeps groups together: a line is its group's number times the size,
 -- and its place in the group.
+
 -- the lines of the first k groups, each group's own lines beside each other
 pub record AreGrouped (size : ℕ) (groups : List ℕ) (k : ℕ) (lines : List ℕ) : Type 0 where
   pub len : length lines ≡ k * size
@@ -127,6 +128,7 @@ grouped-more {size} {k} {groups} {lines} t some before is inner added =
 pub ruleset draw_laws = (line_order_from_groups, line-more, lines-all, order_drawn, groups-none, grouped-none)
 
 -- A draw below a number is below it, a shuffle brings a list into another order, and both leave a stream of words.
+
 word_below : {s : Stream} → HasWords s → (next_u32 s).0 < 2 ^ 32
 unfolding next_u32
 word_below words = words.below []

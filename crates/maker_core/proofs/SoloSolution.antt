@@ -4,6 +4,7 @@ use Rattle.maker_core.proofs.FirstTries.{start_found, start_only}
 
 -- Two cells of one row, column or block of the grid before it is shuffled hold different numbers: each is a number below
 -- n, another for each cell of the line, moved on by what the line has in common, and counted round n.
+
 -- numbers below n that are moved on alike, round n, stay apart
 pub moved_apart : (n k a b : ℕ) → a < n → b < n → (a + k) % n ≡ (b + k) % n → a ≡ b
 moved_apart n k a b la lb e =
@@ -56,6 +57,7 @@ module _ {c r : ℕ} (c_low : 0 < c) (r_low : 0 < r) where
 
 -- The grid of orders is a solution of the puzzle that gives all its cells: two cells of one row, column or block come of two
 -- cells of one before the shuffles, and there the numbers differ.
+
 pub rearranged-at : (c r : ℕ) (numbers rows columns : List ℕ) (place : ℕ) → place < (c * r) * (c * r)
     → slice_index (rearranged c r numbers rows columns) place ≡ slice_index numbers (old_number c r rows columns place)
 unfolding rearranged
@@ -146,6 +148,7 @@ module _ (c r : ℕ) (numbers rows columns : List ℕ) (orders : AreOrders c r n
 pub ruleset solution_laws = (same_number_lists, begin_below, rearranged-at, length-rearranged, old_x_below, old_y_below)
 
 -- The puzzle that gives all cells of a grid: its search starts from that grid alone.
+
 pub given-at : (g : List ℕ) (place : ℕ) → place < length g → slice_index (map suc g) place ≡ slice_index g place + 1
 given-at g place lt = grind (arith, get_or-map)
 

@@ -3,6 +3,7 @@ use Rattle.maker_core.proofs.Common.{All-append, All-from_get_or, All-get_or, Al
 use Rattle.maker_core.proofs.SoloSolution.{given_first, written}
 
 -- A flip of a square grid brings each row to a row, each column to a column, and lines of one group to lines of one group.
+
 -- ---- lines
 pub line_from-below : (flips : Bool) {n k : ℕ} → k < n → line_from flips n k < n
 line_from-below flips lt = grind arith
@@ -71,6 +72,7 @@ pub ruleset flip_laws = (same_number_lists, length-flipped, flipped-at, from_bel
 
 -- A flip of a grid that keeps to all rules but the givens keeps to them: what lies in one row, column, block or diagonal
 -- comes from one row, column, block or diagonal.
+
 -- two places lie in one house of the puzzle
 record AreTogether (p : Solo) (j k : ℕ) : Type 0 where
   house : NamedHouse
@@ -188,6 +190,7 @@ flipped-solution c r x givens g c_low r_low across down s = record {
 }
 
 -- What the search of a top row gives: the first grid of the verdict, which keeps to the rules of Solo X.
+
 -- the store lends the first grid of what the search says
 pub first_is : (answer : Verdict) {first : Option (List ℕ)} (second : Option (List ℕ)) (said : Outcome)
     → IsAnswer answer first second said → first ≡ first_grid said

@@ -4,6 +4,7 @@ use Rattle.maker_core.proofs.WrittenGrids.{grid_with, new_or_old, no_one, zeros-
 use Rattle.maker_core.proofs.Shuffles.{IsShuffledOrder, draw_is, order_is, words_later}
 
 -- The puzzle of a filling has its trees and the numbers of its tents.
+
 pub tents_is : (size : Extent) (filling : TentFilling) (p : Tents) → p ≡ tents_puzzle size filling.trees (lines_ones size filling.tents)
     → p ≡ tents_puzzle_of size filling
 unfolding tents_puzzle_of
@@ -14,6 +15,7 @@ unfolding tents_puzzle_of
 tents_size size filling p is = ap (λ q. q.size) is
 
 -- Cells of Tents that are taken in turn: each tent has a tree of its own beside it, none stands on a tree, and no two touch.
+
 pub wide : (size : Extent) {c : ℕ} → c < size.w * size.h → 1 ≤ size.w
 wide size lt = grind (arith, cases_eq size.w 0)
 
@@ -219,6 +221,7 @@ filling_step {size} {k} {c} {old} {new} w ordered lt at before (inr p) =
     filling_more size k c old new before p (new_from size k c old new w ordered lt at before p) at
 
 -- Each filling of Tents over a stream of words solves its puzzle.
+
 -- a filling, and words after it
 record IsTakenBy (size : Extent) (old : TentFilling) (c : ℕ) (q : TentFilling × Stream) : Type 0 where
   taken : IsTentTaken size old c q.0

@@ -4,6 +4,7 @@ use Rattle.engine_core.specs.declared.search.walk.Verdict.TheVariants as verdict
 use Rattle.maker_core.proofs.WrittenGrids.{head_apart, passes_kept, set_back}
 
 -- A clue is tried: it stays for a reason that the verdict tells, which holds of thinner puzzles too; and the reasons written are those of the clues left.
+
 pub needed : (p : RuleSystem) (budget : ℕ) {first second : Option (List ℕ)} {o : Outcome} {why : Why} → why ≡ Needed
     → IsAnswer verdict.Several first second o → IsTrueOf p o → IsVerdict p budget why
 needed p budget is answer sound = grind (arith, common_steps)

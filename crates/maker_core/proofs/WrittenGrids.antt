@@ -3,6 +3,7 @@ use Rattle.grid_core.proofs.PairingLemmas.{contains_from_member, member_of_filte
 use Rattle.maker_core.proofs.Common.{All-contains, All-from_recursion, All-replicate, All-set, AllByRecursion, Bool, Contains, IsGrid, List, [], ap, append-nil, arith, common_steps, cond, elements, eqb, false, filter, filter-append, get_or, get_or-replicate, get_or_past, length, length-replicate, length-set, lt-ltb, map-id, map-range_with_len_more, range_with_len, refl, replicate, set, set-get_or, set-set, slice_index, slice_set, sym, true, ℕ, ◌++◌, ◌+◌, ◌<◌, ◌==◌, ◌∙◌, ◌∷◌, ◌≡◌, ◌≢◌, ◌⊎◌}
 
 -- A filter of a range grows by its end, and keeps each number that passes.
+
 -- one more number of a range
 pub range_more : (k : ℕ) → range_with_len 0 (k + 1) ≡ range_with_len 0 k ++ k ∷ []
 range_more k = simp map-id at (map-range_with_len_more (λ x. x) 0 k k (omega arith))
@@ -29,6 +30,7 @@ head_apart xs {x} {q} apart held = grind (arith, common_steps, All-contains, All
 pub ruleset filter_laws = (filter_kept, filter_skipped)
 
 -- Grids of 0 and 1, of which a cell is written.
+
 pub zeros-grid : {n : ℕ} → IsGrid n 2 (replicate n 0)
 zeros-grid {n} = grind (arith, common_steps, length-replicate, All-replicate)
 

@@ -2,8 +2,7 @@
 pub use Rattle.std.proofs.Math.Nat.{le_refl, max-le}
 pub use Rattle.std.proofs.lemmas.Bool.{and_from, and_parts, cases_eq, cases_lt}
 pub use Rattle.std.proofs.lemmas.Grind.{common_steps}
-pub use Rattle.std.proofs.lemmas.List.{get_or-append-add, get_or-set_other, get_or-set_same, get_or_append_left, get_or_past, length-append, length-map}
-pub use Rattle.std.proofs.lemmas.List.{length-set}
+pub use Rattle.std.proofs.lemmas.List.{get_or-set_other, get_or-set_same, get_or_past, length-append, length-map, length-set}
 pub use Rattle.std.specs.List.{IsDistinct, range_with_len}
 pub use Rattle.std.specs.Prelude.{filter, slice_index, slice_index_or, slice_set}
 pub use Rattle.rand_core.specs.Stream.{Call, Stream}

@@ -1,4 +1,4 @@
--- What fewer numbers change: houses that are left out, and the rest.
+-- Light Up with fewer numbers: lists from which some houses are left out, and what fewer numbers change.
 use Rattle.maker_core.specs.Below.{Black, Extent, Light, LightCell, Numbered, Solves, White, all_below-at, all_below-from, begins_column_run, begins_row_run, beside, black_right, bulb_right, cases_eq, cases_lt, column_house, column_run, common_steps, filter, get_or-set_other, get_or-set_same, get_or_past, is_white, joined_in_column, joined_in_row, le_refl, length-append, length-map, length-set, light_houses, light_rules, lit_house, lit_right, longest, max-le, number_house, number_is, number_right, numbered, row_house, row_run, seen_from, sees, sees_bulb, slice_index_or, slice_set, solves_lights, white}
 use Rattle.std.proofs.Common.{List, Some, [], ap, arith, false, get_or, inl, inr, length, map, refl, set, subst, suc, sym, true, zero, ℕ, ◌++◌, ◌<◌, ◌∷◌, ◌∙◌, ◌≡◌, ◌≢◌, ◌≤◌, ◌⊎◌}
 use Rattle.engine_core.proofs.JudgeLemmas.{scope_le-longest}
@@ -14,6 +14,7 @@ use Rattle.maker_core.specs.Thinning.{IsGame, IsThinnedFrom}
 use Rattle.maker_core.specs.LightMaking.{SameLight, light_game, number_clue, with_numbers}
 
 -- A list of houses from which some are left out is no longer, and has no longer house.
+
 -- the house has at most m cells
 abbrev pub IsShort : ℕ → CountHouse → Type 0
 IsShort m house = length house.places ≤ m
@@ -61,6 +62,7 @@ longest_of_fewer {xs} {ys} less =
     longest_at_most _ (length xs) (λ h lt. all-at (IsShort m) xs (less.short m all) lt)
 
 -- What fewer numbers change.
+
 with_cells : Extent → List LightCell → Light
 with_cells size cells = record { size = size; cells = cells }
 

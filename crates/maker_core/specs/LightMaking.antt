@@ -13,6 +13,7 @@ use Rattle.maker_core.specs.declared.made.MakeFault.{MakeFault}
 use Rattle.maker_core.specs.declared.made.MakeFault.TheVariants.{Exhausted, Memory, SizeRange}
 
 -- What a maker of Light Up tries. A grid has 1 at a bulb and 0 elsewhere.
+
 -- the puzzle without numbers that has these black cells: 1 for black
 unfoldable pub lights_of : Extent → List ℕ → Light
 lights_of size black =
@@ -71,6 +72,7 @@ pub record IsLit (size : Extent) (filling : LightFilling) : Type 0 where
   pub solved : solves_lights (light_puzzle_of size filling) filling.bulbs ≡ true
 
 -- The clues of Light Up: the numbers of black cells.
+
 -- the clue of a cell
 abbrev pub number_clue : LightCell → Option ℕ
 number_clue White = None
@@ -94,6 +96,7 @@ light_game = record {
 }
 
 -- What a maker of Light Up gives.
+
 -- The first of the fillings that passes gives the solution and the black cells; the puzzle has some of its numbers and no
 -- other solution, and its own verdict says so. Each number that is left was kept for a reason.
 pub record IsLightMade (size : Extent) (black budget tries : ℕ) (s : Stream)

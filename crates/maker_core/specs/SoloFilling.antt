@@ -7,6 +7,7 @@ use Rattle.maker_core.specs.declared.solo.filling.Lines.{Lines}
 use Rattle.std.specs.Borrow.{Bor}
 
 -- Orders of numbers, and orders of the lines of a grid that keep groups of lines together.
+
 -- the numbers below n, each once
 pub record IsOrder (n : ℕ) (xs : List ℕ) : Type 0 where
   pub len : length xs ≡ n
@@ -31,6 +32,7 @@ pub record AreOrders (c r : ℕ) (numbers rows columns : List ℕ) : Type 0 wher
 -- The filling of plain Solo: a grid that has every number once in each row, column and block, and in which the numbers, the
 -- bands, the rows of each band, the stacks and the columns of each stack are then shuffled. A band is c rows, a stack is
 -- r columns. A grid holds the number v as v - 1.
+
 -- the number in column x and row y before anything is shuffled
 abbrev pub first_number : ℕ → ℕ → ℕ → ℕ → ℕ
 first_number c r x y = ((y % c) * r + y / c + x) % (c * r)
@@ -94,6 +96,7 @@ abbrev pub IsFullSolution : ℕ → ℕ → Bool → List ℕ → Type 0
 IsFullSolution c r x g = IsSoloSolution (all_given c r x g) g
 
 -- Square grids turned over: flipped left to right, and flipped top to bottom.
+
 -- which of n lines comes to line k: itself, or where they are flipped the one as far from the other end
 abbrev pub line_from : Bool → ℕ → ℕ → ℕ
 line_from flips n k = if flips then n - 1 - k else k
@@ -112,6 +115,7 @@ abbrev pub flipped_by : ℕ → ℕ → List ℕ → List ℕ
 flipped_by n draw g = flipped n ((draw == 1) || (draw == 3)) ((draw == 2) || (draw == 3)) g
 
 -- The filling of Solo X: a search of the puzzle whose top row is given, turned over by a draw.
+
 -- the puzzle whose top row has these numbers, and which has no other given; a number v is held as v - 1
 abbrev pub top_row_given : ℕ → ℕ → List ℕ → Solo
 top_row_given c r numbers =

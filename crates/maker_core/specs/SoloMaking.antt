@@ -12,6 +12,7 @@ use Rattle.maker_core.specs.declared.made.Limits.{Limits}
 use Rattle.maker_core.specs.declared.made.Made.{Made}
 
 -- The clues of Solo: the givens.
+
 -- the clue of a cell, which holds 0 where it has none
 abbrev pub given_clue : ℕ → Option ℕ
 given_clue zero = None
@@ -35,6 +36,7 @@ solo_game = record {
 }
 
 -- What a maker of Solo tries, and what it gives.
+
 -- sizes within the game's limits
 pub record IsSoloSize (c r : ℕ) : Type 0 where
   pub c_low : 2 ≤ c

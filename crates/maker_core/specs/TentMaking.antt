@@ -13,6 +13,7 @@ use Rattle.maker_core.specs.declared.made.MakeFault.{MakeFault}
 use Rattle.maker_core.specs.declared.made.MakeFault.TheVariants.{Exhausted, Memory, SizeRange}
 
 -- What a maker of Tents tries. Grids have 1 at a tree or a tent and 0 elsewhere.
+
 -- no trees and no tents
 unfoldable pub no_tents : Extent → TentFilling
 no_tents size =
@@ -93,6 +94,7 @@ abbrev pub tents_pass : Extent → ℕ → TentFilling → Bool
 tents_pass size budget filling = has_one (rules_filled size filling) budget
 
 -- Which sizes a maker of Tents takes, and what it gives.
+
 -- both sides are at least 4
 pub record IsTentSize (size : Extent) : Type 0 where
   pub w_four : 4 ≤ size.w

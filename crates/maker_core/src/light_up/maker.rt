@@ -97,7 +97,8 @@ pub fn make_lights<G: Rng>(
     requires { black ≤ 100 }
     ensures made { IfOk result (MakesLights size black limits (G.stream rng.old)) }
     ensures unmade { IfErr result (IsLightUnmade size black limits (G.stream rng.old)) }
-    ensures leaves { LeavesGenerator (light_tries size black limits) G.stream rng.old rng.new result }
+    ensures leaves { LeavesGenerator (light_tries size black limits) G.stream
+        rng.old rng.new result }
 {
     if !is_wide(size) {
         return Err(MakeFault::SizeRange);

@@ -74,7 +74,8 @@ pub fn make_pattern<G: Rng>(
     requires { black ≤ 100 }
     ensures made { IfOk result (MakesPattern size black limits (G.stream rng.old)) }
     ensures unmade { IfErr result (IsPatternUnmade size black limits (G.stream rng.old)) }
-    ensures leaves { LeavesGenerator (pattern_tries size black limits) G.stream rng.old rng.new result }
+    ensures leaves { LeavesGenerator (pattern_tries size black limits) G.stream
+        rng.old rng.new result }
 {
     let bitmaps = Bitmaps {
         size,

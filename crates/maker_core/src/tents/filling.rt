@@ -72,7 +72,8 @@ fn place_tent<G: Rng>(
     requires free { free.now ≡ free_cells_beside size filling.old place }
     requires some { 0 < length free.now }
     requires may { may_have_tent size filling.old place ≡ true }
-    ensures drawn { IsDrawnBy (tent_put size filling.old place) G.stream rng.old rng.new filling.new }
+    ensures drawn { IsDrawnBy (tent_put size filling.old place) G.stream
+        rng.old rng.new filling.new }
     ensures placed { IsTentPlaced size filling.old place filling.new }
 {
     let k = draw(rng, free.len() as u32);
