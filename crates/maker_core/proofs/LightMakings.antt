@@ -6,7 +6,7 @@ use Rattle.maker_core.proofs.FirstTries.{found_at_once, one_grid}
 -- The cells of a puzzle of Light Up, rewritten one by one.
 
 -- the cells below `place` are the new ones, and the others the old ones
-pub record IsRewritten (size : Extent) (new old : ℕ → LightCell) (place : ℕ) (p : Light) : Type 0 where
+pub record AreCellsRewritten (size : Extent) (new old : ℕ → LightCell) (place : ℕ) (p : Light) : Type 0 where
   pub sized : p.size ≡ size
   pub long : length p.cells ≡ size.w * size.h
   pub now : (k : ℕ) → k < place → k < size.w * size.h → get_or p.cells k Black ≡ new k
@@ -22,27 +22,27 @@ abbrev pub old_cell : Light → ℕ → LightCell
 old_cell p k = get_or p.cells k Black
 
 -- all cells are rewritten
-pub IsRewritten-all : {size : Extent} {new old : ℕ → LightCell} {place : ℕ} (p : Light) → IsRewritten size new old place p → size.w * size.h ≤ place
+pub AreCellsRewritten-all : {size : Extent} {new old : ℕ → LightCell} {place : ℕ} (p : Light) → AreCellsRewritten size new old place p → size.w * size.h ≤ place
     → p ≡ record { size = size; cells = map new (range_with_len 0 (size.w * size.h)) }
-IsRewritten-all {size} {new} p w all =
+AreCellsRewritten-all {size} {new} p w all =
     let cells = fill_by_all new p.cells (size.w * size.h) Black w.long (λ k lt. w.now k (omega arith) lt) in
     rw (← cells, ← w.sized) refl
 
 -- ---- black cells
-pub blackened : (size : Extent) (black : List ℕ) {place : ℕ} (p : Light) → IsRewritten size (black_cell black) white_cell place p
+pub blackened : (size : Extent) (black : List ℕ) {place : ℕ} (p : Light) → AreCellsRewritten size (black_cell black) white_cell place p
     → size.w * size.h ≤ place → length black ≡ size.w * size.h → p ≡ lights_of size black
 unfolding lights_of
 blackened size black p w all long =
     let colour : ℕ → LightCell = λ v. if v == 1 then Black else White in
     rw (fill_by_all (black_cell black) (map colour black) (size.w * size.h) Black (length-map black colour ∙ long)
     (λ k lt. get_or-map colour black k 0 Black (omega arith)))
-    (IsRewritten-all p w all)
+    (AreCellsRewritten-all p w all)
 
 -- ---- numbers
-pub numbered_all : (p q : Light) (g : List ℕ) {place : ℕ} → IsRewritten p.size (numbered_cell p g) (old_cell p) place q
+pub numbered_all : (p q : Light) (g : List ℕ) {place : ℕ} → AreCellsRewritten p.size (numbered_cell p g) (old_cell p) place q
     → light_cells p ≤ place → q ≡ with_numbers p g
 unfolding with_numbers
-numbered_all p q g w all = IsRewritten-all q w all
+numbered_all p q g w all = AreCellsRewritten-all q w all
 
 -- a cell has at most four beside it
 pub bulbs_few : (p : Light) (g : List ℕ) (c : ℕ) → bulbs_beside p g c ≤ 4

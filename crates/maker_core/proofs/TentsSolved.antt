@@ -259,12 +259,12 @@ filling_is {size} {order} {s} low ordered words (suc k) within =
     }
 
 -- a filling that solves its puzzle, with words after it
-pub record IsSolved (size : Extent) (q : TentFilling × Stream) : Type 0 where
+pub record IsFillingSolved (size : Extent) (q : TentFilling × Stream) : Type 0 where
   pub trees : IsGrid (size.w * size.h) 2 q.0.trees
   pub solves : IsTentSolution (tents_puzzle_of size q.0) q.0.tents
   pub words : HasWords q.1
 
-pub filling_solves : {size : Extent} {s : Stream} → IsExtent size → HasWords s → IsSolved size (tent_filling size s)
+pub filling_solves : {size : Extent} {s : Stream} → IsExtent size → HasWords s → IsFillingSolved size (tent_filling size s)
 unfolding tent_filling
 filling_solves {size} {s} extent words =
     let cells = mul-le size.w size.h 120 120 extent.w_high extent.h_high in
@@ -281,5 +281,5 @@ filling_solves {size} {s} extent words =
 
 -- the k-th filling
 pub filling_at_solves : {size : Extent} {s : Stream} → IsExtent size → HasWords s → (k : ℕ)
-    → IsSolved size (tent_filling size (stream_after (tent_filling size) k s))
+    → IsFillingSolved size (tent_filling size (stream_after (tent_filling size) k s))
 filling_at_solves {size} extent words k = filling_solves extent (words_later (tent_filling size) (λ s w. (filling_solves extent w).words) words k)

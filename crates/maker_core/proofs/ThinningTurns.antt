@@ -29,7 +29,7 @@ contains_rest xs apart (zero, below, is) = absurd (apart (sym is))
 contains_rest xs apart (suc k, below, is) = (k, omega arith, is)
 
 -- what holds of the puzzle after the clue of a cell was tried: no clue more, and memory for the old one suffices
-pub record IsTurn {A : Type 0} (game : CluedGame A) (budget : ℕ) (all old new : A) (place : ℕ) (why : Option Why) : Type 0 where
+pub record IsClueTried {A : Type 0} (game : CluedGame A) (budget : ℕ) (all old new : A) (place : ℕ) (why : Option Why) : Type 0 where
   pub within : IsThinnedFrom game new old
   pub one : HasOne (game.rules new) budget
   pub others : (other : ℕ) → other ≢ place → game.clue new other ≡ game.clue old other
@@ -95,7 +95,7 @@ module _ {A : Type 0} {game : CluedGame A} (laws : IsGame game) where
       gave_up = gave_up;
     }
 
-    pub turn : {new : A} (why : Option Why) → IsLeft game place p new why → IsAsked game budget place p why → IsTurn game budget all p new place why
+    pub turn : {new : A} (why : Option Why) → IsLeft game place p new why → IsAsked game budget place p why → IsClueTried game budget all p new place why
     turn None left asked = rw left (record {
       within = thinner p place clue_of.0 clue_of.1;
       one = asked;
@@ -112,7 +112,7 @@ module _ {A : Type 0} {game : CluedGame A} (laws : IsGame game) where
     })
 
     -- a clue was tried, and the reason written
-    pub thinning_turn : {new : A} {why : Option Why} → IsTurn game budget all p new place why → IsThinning game budget all new (set whys place why) rest
+    pub thinning_turn : {new : A} {why : Option Why} → IsClueTried game budget all p new place why → IsThinning game budget all new (set whys place why) rest
     unfolding IsDistinct
     thinning_turn {new} {why} turned = record {
       within = within_through turned.within now.within;

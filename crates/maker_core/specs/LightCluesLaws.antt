@@ -16,12 +16,12 @@ use Rattle.maker_core.specs.LightMaking.{SameLight, light_game, number_clue, wit
 -- A list of houses from which some are left out is no longer, and has no longer house.
 
 -- the house has at most m cells
-abbrev pub IsShort : ℕ → CountHouse → Type 0
-IsShort m house = length house.places ≤ m
+abbrev pub HasFewCells : ℕ → CountHouse → Type 0
+HasFewCells m house = length house.places ≤ m
 
 pub record IsFewer (xs ys : List CountHouse) : Type 0 where
   pub fewer : length xs ≤ length ys
-  pub short : (m : ℕ) → AllByRecursion (IsShort m) ys → AllByRecursion (IsShort m) xs
+  pub short : (m : ℕ) → AllByRecursion (HasFewCells m) ys → AllByRecursion (HasFewCells m) xs
 
 pub fewer_itself : {xs : List CountHouse} → IsFewer xs xs
 fewer_itself = record { fewer = le_refl _; short = λ m each. each }
@@ -36,7 +36,7 @@ both P (x ∷ xs) ys (is, each) = let parts = both P xs ys each in ((is, parts.0
 pub fewer_append : {xs ys us vs : List CountHouse} → IsFewer xs ys → IsFewer us vs → IsFewer (xs ++ us) (ys ++ vs)
 fewer_append {xs} {ys} {us} {vs} first second = record {
   fewer = omega (arith, first.fewer, second.fewer, length-append xs us, length-append ys vs);
-  short = λ m each. let parts = both (IsShort m) ys vs each in all-append (IsShort m) xs us (first.short m parts.0) (second.short m parts.1);
+  short = λ m each. let parts = both (HasFewCells m) ys vs each in all-append (HasFewCells m) xs us (first.short m parts.0) (second.short m parts.1);
 }
 
 fewer_at : {xs ys : List CountHouse} → (xs ≡ ys) ⊎ (xs ≡ []) → IsFewer xs ys
@@ -58,8 +58,8 @@ pub longest_of_fewer : {xs ys : List CountHouse} → IsFewer xs ys
     → longest (λ h. (count_house_of xs h).places) (length xs) ≤ longest (λ h. (count_house_of ys h).places) (length ys)
 longest_of_fewer {xs} {ys} less =
     let m = longest (λ h. (count_house_of ys h).places) (length ys) in
-    let all = recursion_from_All (IsShort m) ys (All-from_get_or (IsShort m) ys no_count_house (λ h lt. scope_le-longest _ (length ys) h lt)) in
-    longest_at_most _ (length xs) (λ h lt. all-at (IsShort m) xs (less.short m all) lt)
+    let all = recursion_from_All (HasFewCells m) ys (All-from_get_or (HasFewCells m) ys no_count_house (λ h lt. scope_le-longest _ (length ys) h lt)) in
+    longest_at_most _ (length xs) (λ h lt. all-at (HasFewCells m) xs (less.short m all) lt)
 
 -- What fewer numbers change.
 

@@ -99,20 +99,20 @@ alone m some = record {
 }
 
 -- cells that begin with the clue's first run
-abbrev Begins : List ℕ → ℕ → ℕ → Type 0
-Begins clue m n = (f : Fitting (m ∷ clue) n) × ((k : ℕ) → k < m → get_or f.cells k 0 ≡ 1)
+abbrev BeginsWithRun : List ℕ → ℕ → ℕ → Type 0
+BeginsWithRun clue m n = (f : Fitting (m ∷ clue) n) × ((k : ℕ) → k < m → get_or f.cells k 0 ≡ 1)
 
-run_and : {clue : List ℕ} (m n : ℕ) → ArePositive (m ∷ clue) → m < n → Fitting clue (n - m - 1) → Begins clue m n
-run_and {clue} m n p lt f = subst (Begins clue m) (omega arith)
+run_and : {clue : List ℕ} (m n : ℕ) → ArePositive (m ∷ clue) → m < n → Fitting clue (n - m - 1) → BeginsWithRun clue m n
+run_and {clue} m n p lt f = subst (BeginsWithRun clue m) (omega arith)
     (longer_by m p.0 f, λ k low. before m 1 _ k low)
 
 blank : {n : ℕ} → Fitting [] n
 blank {n} = subst (Fitting []) (omega arith) (whiter n empty)
 
-begins : (clue : List ℕ) (m n : ℕ) → ArePositive (m ∷ clue) → used (m ∷ clue) ≤ n + 1 → Begins clue m n
+begins : (clue : List ℕ) (m n : ℕ) → ArePositive (m ∷ clue) → used (m ∷ clue) ≤ n + 1 → BeginsWithRun clue m n
 begins [] m n p fits = elim (cases_lt m n) [
   | inl lt ↦ run_and m n p lt blank
-  | inr ge ↦ subst (Begins [] m) (omega arith) (alone m p.0, λ k lt. before m 1 [] k lt)
+  | inr ge ↦ subst (BeginsWithRun [] m) (omega arith) (alone m p.0, λ k lt. before m 1 [] k lt)
 ]
 begins (x ∷ clue) m n p fits = run_and m n p (omega arith) (begins clue x (n - m - 1) p.1 (omega arith)).0
 

@@ -37,8 +37,8 @@ too_long k m cells clue le =
 abbrev Starts : List ℕ → Type 0
 Starts cells = (clue : List ℕ) → ArePositive clue → matches true (spelled clue) cells ≡ pointwise eqb (runs_after 0 cells) clue
 
-abbrev GoesOn : List ℕ → Type 0
-GoesOn cells = (k d : ℕ) (clue : List ℕ) → ArePositive clue
+abbrev RunsGoOn : List ℕ → Type 0
+RunsGoOn cells = (k d : ℕ) (clue : List ℕ) → ArePositive clue
     → matches false (replicate d 1 ++ 0 ∷ spelled clue) cells ≡ pointwise eqb (runs_after (suc k) cells) ((suc k + d) ∷ clue)
 
 starts_none : Starts []
@@ -47,7 +47,7 @@ starts_none [] p = refl
 starts_none (zero ∷ clue) p = absurd (omega arith)
 starts_none (suc m ∷ clue) p = long m clue
 
-goes_on_none : GoesOn []
+goes_on_none : RunsGoOn []
 unfolding spelled runs_after matches
 goes_on_none k zero [] p = sym (ap (λ b. b && true) (eq-eqb (suc k) (suc k + 0) (omega arith)))
 goes_on_none k zero (zero ∷ clue) p = absurd (omega arith)
@@ -60,26 +60,26 @@ starts_white cells rest [] p = or-false (matches true [] cells) ∙ rest [] p
 starts_white cells rest (zero ∷ clue) p = absurd (omega arith)
 starts_white cells rest (suc m ∷ clue) p = or-false (matches true (spelled (suc m ∷ clue)) cells) ∙ rest (suc m ∷ clue) p
 
-goes_on_white : (cells : List ℕ) → Starts cells → GoesOn (zero ∷ cells)
+goes_on_white : (cells : List ℕ) → Starts cells → RunsGoOn (zero ∷ cells)
 unfolding spelled runs_after matches
 goes_on_white cells rest k zero clue p = rest clue p ∙ sym (ap (λ b. b && pointwise eqb (runs_after 0 cells) clue) (eq-eqb (suc k) (suc k + 0) (omega arith)))
 goes_on_white cells rest k (suc d) clue p = sym (ap (λ b. b && pointwise eqb (runs_after 0 cells) clue)
     (ne_eqb (suc k) _ (λ e. absurd (omega arith))))
 
-starts_black : (x : ℕ) (cells : List ℕ) → GoesOn cells → Starts (suc x ∷ cells)
+starts_black : (x : ℕ) (cells : List ℕ) → RunsGoOn cells → Starts (suc x ∷ cells)
 unfolding spelled runs_after matches
 starts_black x cells rest [] p = sym (not_none 0 cells)
 starts_black x cells rest (zero ∷ clue) p = absurd (omega arith)
 starts_black x cells rest (suc m ∷ clue) p = rest 0 m clue p.1
     ∙ ap (λ n. pointwise eqb (runs_after 1 cells) (n ∷ clue)) (omega arith)
 
-goes_on_black : (x : ℕ) (cells : List ℕ) → GoesOn cells → GoesOn (suc x ∷ cells)
+goes_on_black : (x : ℕ) (cells : List ℕ) → RunsGoOn cells → RunsGoOn (suc x ∷ cells)
 unfolding spelled runs_after matches
 goes_on_black x cells rest k zero clue p = sym (too_long (suc k) (suc k + 0) cells clue (omega arith))
 goes_on_black x cells rest k (suc d) clue p =
     rest (suc k) d clue p ∙ ap (λ m. pointwise eqb (runs_after (suc (suc k)) cells) (m ∷ clue)) (omega arith)
 
-both : (cells : List ℕ) → Starts cells × GoesOn cells
+both : (cells : List ℕ) → Starts cells × RunsGoOn cells
 both [] = (starts_none, goes_on_none)
 both (zero ∷ cells) = (starts_white cells (both cells).0, goes_on_white cells (both cells).0)
 both (suc x ∷ cells) = (starts_black x cells (both cells).1, goes_on_black x cells (both cells).1)
