@@ -48,7 +48,7 @@ fn has_sets<R: Searchable>(store: &Store<R>, rules: &R, sets: &Sets) -> bool
 }
 
 /// Whether the store's last closing, of a board with these sets, went as the plain one, and tells of no search. It made a
-/// visit or a sweep, unless a cell had no value before.
+/// visit or a sweep exactly where each cell had a value before.
 fn is_closed<R: Searchable>(
     store: &Store<R>,
     rules: &R,
@@ -70,7 +70,7 @@ fn is_closed<R: Searchable>(
     (closing == Closing::Dead) == dead
         && (dead || has_sets(store, rules, &plain))
         && counted
-        && (turns > 0 || has_empty_cell(sets, small.cells))
+        && (turns == 0) == has_empty_cell(sets, small.cells)
         && !searched
         && !lent
 }
@@ -120,7 +120,16 @@ fn is_same(lent: Option<&Grid>, found: &Option<Numbers>, cells: usize) -> bool {
     }
 }
 
-/// Whether a search with the budget goes as the walk does. Each trial is closed by a visit or a sweep at least.
+/// Whether the rules go by visits, and none strikes anything from the start board: its closing can do without any then.
+fn starts_closed<R: Searchable>(small: &Small) -> bool {
+    match R::MODE {
+        Mode::Queue => small.closure(&small.start) == small.start,
+        Mode::Sweep => false,
+    }
+}
+
+/// Whether a search with the budget goes as the walk does. Each trial is closed by a visit or a sweep at least. So is the
+/// start, unless visits strike nothing from it: no start of these games has a cell without a value.
 fn goes_as_the_walk<R: Searchable>(
     store: &mut Store<R>,
     rules: &R,
@@ -131,9 +140,10 @@ fn goes_as_the_walk<R: Searchable>(
 {
     let verdict = store.solve(rules, budget);
     let walk = Walk::new(small, budget);
+    let trials = u128::from(walk.trials);
     verdict == walk.verdict()
         && (store.trials(), store.deepest()) == (walk.trials, walk.deepest)
-        && store.turns() >= u128::from(walk.trials)
+        && (store.turns() > trials || (starts_closed::<R>(small) && store.turns() == trials))
         && is_same(store.first(), &walk.first, small.cells)
         && is_same(store.second(), &walk.second, small.cells)
 }
