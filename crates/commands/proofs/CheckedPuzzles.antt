@@ -17,7 +17,7 @@ use Rattle.pattern_core.proofs.FaultLemmas.{pattern_known, pattern_none, pattern
 use Rattle.solo_core.proofs.RepeatLemmas.{solo_known, solo_none, solo_sound}
 use Rattle.commands.proofs.Readings.{AreSame, IsCellText, ReadsCells, grid_is_text, grid_read, light_cell_text, light_in, light_reads, pattern_cell_text, pattern_reads, plain_kept, printed_read, solo_cell_text, solo_in, solo_reads, symbol_in, tents_cell_text, tents_in, tents_reads}
 
--- so it is, or not
+-- a fact is so, or it is not
 abbrev pub Decided : Type 0 → Type 0
 Decided A = A ⊎ (A → ⊥)
 

@@ -8,10 +8,10 @@ use Rattle.maker_core.proofs.Shuffles.{AreGrouped, AreGrouped-more, grouped-none
 use Rattle.maker_core.proofs.SoloXSearch.{first_solves, flipped-found, top-solo}
 use Rattle.maker_core.specs.LightMaking.{IsLightMade}
 use Rattle.maker_core.proofs.LightMakings.{all_numbers, bulbs_after-grid, bulbs_few, lit_one, lit_solved, number_at, size_is}
-use Rattle.commands.proofs.SearchedPuzzles.{has_one}
-use Rattle.commands.proofs.SearchedPuzzles.{light_searched, right_of}
+use Rattle.commands.proofs.SearchedPuzzles.{has_one, light_searched, right_of}
 
 -- A shuffle brings any list into another order, and leaves a stream of words; and so many draws of black cells leave one.
+
 -- ---- a list in a shuffled order
 pub record IsShuffled (items : List ℕ) (p : List ℕ × Stream) : Type 0 where
   pub permutation : IsPermutation items p.0
@@ -32,6 +32,7 @@ black_words black (suc k) {s} words = (draw_is 100 (black_cells black k s).1 (om
 
 -- A puzzle with all its clues can be thinned: a clue is taken away where the verdict without it is one, and else left for the reason
 -- that the verdict tells.
+
 module _ {A : Type 0} (game : CluedGame A) (laws : IsGame game) (budget : ℕ) (all : A) (answer : List ℕ) where
   without_in : (p : A) (place n : ℕ) → IsThinnedFrom game p all → game.clue p place ≡ Some n → IsThinnedFrom game (game.without p place) all
   without_in p place n w e = record {
@@ -104,6 +105,7 @@ thinned {game} laws budget all answer lawful whole only found =
     )
 
 -- Each filling of Solo over a stream of words is a grid that keeps to the rules; and the first that is there can be thinned.
+
 -- ---- plain Solo
 record AreGroupsDrawn (size : ℕ) (groups : List ℕ) (k : ℕ) (q : List ℕ × Stream) : Type 0 where
   grouped : AreGrouped size groups k q.0
@@ -237,6 +239,7 @@ module _ (c r : ℕ) (size : IsSoloSize c r) where
         )
 
 -- Each filling of Light Up over a stream of words solves its puzzle; and the first that passes can be thinned.
+
 -- what fillings of Light Up are; `maker_core` keeps the name of their type to itself
 abbrev MadeBy : {A : Type 0} → (Extent → ℕ → Making A) → Type 0
 MadeBy {A = A} make = A

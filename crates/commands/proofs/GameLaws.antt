@@ -11,6 +11,7 @@ use Rattle.engine_core.proofs.SearchLemmas.{spent-le}
 
 -- What the laws rest on, for each game; and what is told of an ID beside its verdict: a grid that is told passes, what is
 -- handed out is solved, and an input that is correct is a solution.
+
 same_status : {a b : Answer} → a ≡ b → a.status ≡ b.status
 same_status e = ap (λ c. c.status) e
 
@@ -137,7 +138,7 @@ right_by_verdict solves trials (OneSolution g) right = (g, right.0, right.1)
 right_by_verdict solves trials (SeveralSolutions g h) right = (g, h, right.0, right.1, right.2)
 right_by_verdict solves trials (GaveUp found) right = tt
 
--- so are those of each rule set
+-- what searches rest on is so of each of these rule sets
 abbrev pub EachSearched : (List ℕ → Type 0) → List NamedRules → Type 0
 EachSearched solves [] = Unit {0}
 EachSearched solves (first ∷ rest) = SearchedPuzzle first.rules solves × EachSearched solves rest
@@ -246,6 +247,7 @@ pub answers : (g : Game) (budget : ℕ) → HasAnswers (λ id. AllowsSolve (game
 answers g budget text = let one = solving g budget text in (one.answer, one.allowed)
 
 -- A grade names a search by the trials of the whole walk, which are the least budget with which the verdict is one.
+
 -- the third byte of a text: of all grades only a search has an 'a' there
 third : Text → ℕ
 third text = slice_index text 2

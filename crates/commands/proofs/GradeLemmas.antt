@@ -12,6 +12,7 @@ use Rattle.commands.proofs.SearchedPuzzles.{SearchedPuzzle, verdict_right}
 
 -- A puzzle is settled exactly where its verdict without a trial is one, and its grade goes along with its verdict; and so what is
 -- told of the two.
+
 -- a full board whose grid is no solution has no marks
 walk_closed-wrong : (p : RuleSystem) (walk_of : Candidates → List Mark) (d : ℕ) (E : Candidates) → is_dead p.cells p.values E ≡ false
     → is_full p.cells p.values E ≡ true → p.is_solution (grid_of p.cells p.values E) ≡ false → walk_closed p walk_of d E ≡ []
@@ -245,6 +246,7 @@ module _ {traced : Bool} {name : ℕ → Text} {tried : RuleSystem} (printed : L
       is_status = ap (λ a. a.status) is ∙ told_status printed _
 
 -- What grades mean of the games' own solutions, and how their texts and traces are told.
+
 -- where one grid is found, all trials of the walk were made
 pub spent_whole : (budget : ℕ) (found : Option (List ℕ)) (marks : List Mark) (g : List ℕ) → outcome budget found marks ≡ OneSolution g
     → spent budget found marks ≡ trials_in marks

@@ -27,6 +27,7 @@ module _ {P : Type 0} {play : PuzzleFacts P} {alike : P → P → Type 0} where
 
 -- What is made of a size is made of the first filling that passes, and is handed out; two puzzles that are made of one filling
 -- are alike, with one solution. None is made where none passes.
+
 record IsMaking {P : Type 0} (play : PuzzleFacts P) (alike : P → P → Type 0) (w : Wanted) (size : SizeRead) : Type 1 where
   filling : Type 0
   make : Making filling

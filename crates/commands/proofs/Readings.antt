@@ -11,6 +11,7 @@ use Rattle.gameid_core.proofs.PrintedGrids.{Left, LeftOf, after_cell, all_left, 
 use Rattle.gameid_core.proofs.Reading.{front_decimal}
 
 -- What is answered to an ID, where a text spells one puzzle or has one fault, and never both.
+
 first_fault : {P : Type 0} {fault : IdFault} {reading : Result P IdFault} → fault ≢ Memory → Fails fault reading → reading ≡ Err fault
 first_fault {fault = Memory} {reading} other fails = absurd (other refl)
 first_fault {fault} {reading} other fails = fails
@@ -126,6 +127,7 @@ module _ {P : Type 0} (game : GameFacts P) (reading : HasOneReading game.spells 
 
 -- The grid that a text can be the printed form of is read of the text, so it is the only one; and what is printed has no
 -- carriage return, and is never too long to be read back.
+
 -- the number at a place and how many bytes are printed of it are read of each text that begins with that, where what may stand after
 -- it follows
 abbrev pub ReadsCells : (ℕ → Type 0) → ℕ → Extent → (List ℕ → ℕ → Text) → (ℕ → Text → ℕ × ℕ) → Type 0

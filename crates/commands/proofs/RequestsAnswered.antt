@@ -1,4 +1,4 @@
--- Each request has an answer on each input.
+-- Closings that every lawful rule set has, and the answer that each request has on each input.
 use Rattle.commands.proofs.Common.{Allows, AllowsCheck, AllowsGrade, AllowsSolve, Answer, Asked, Bool, Candidates, Game, IsLawful, IsTrace, IsWithin, List, NamedRules, None, Option, RuleSystem, SaysClosing, Some, Text, [], add-one, after_inside, any_below, any_below-none, any_below-some, arith, cases_Bool, check, codes, cond_both, false, game_of, generate, grade, grade_status, grade_text, inl, inr, is_dead, is_settled, last_tried, length, length-append, lines, listed_grade, refl, refused_words, solve, suc, sweeps_text, total, true, true≢false, visits_text, wanted, within_inside, zero, ℕ, ◌++◌, ◌+◌, ◌<◌, ◌∷◌, ◌≡◌, ◌≤◌}
 use Rattle.engine_core.specs.RuleSystem.{after}
 use Rattle.engine_core.specs.ClosingList.{IsClosingList, IsClosingSweeps}
@@ -14,6 +14,7 @@ use Rattle.commands.proofs.Makings.{made_some}
 use Rattle.commands.proofs.Readings.{id_some}
 
 -- A lawful rule set has visits that close each of its boards, or sweeps that do: those that its closing would make.
+
 -- after a visit all wait that it wakes
 abbrev wakes : RuleSystem → ℕ → Candidates → (ℕ → Bool) → ℕ → Bool
 wakes p h K waits = woken p h (counts_of p h K) (after p h K) (but waits h)
@@ -114,6 +115,7 @@ module _ {p : RuleSystem} (laws : IsLawful p) where
     ]
 
 -- Each request has an answer on each input.
+
 -- ---- traces
 closing_said : (name : ℕ → Text) {rules : RuleSystem} → IsLawful rules → (lines : Text) × SaysClosing rules.by_queue name rules lines
 closing_said name {rules} laws = by rules.by_queue refl

@@ -10,6 +10,7 @@ use Rattle.commands.specs.declared.ends.Source as sources
 
 -- The bytes of a line that are kept, and a text that is copied without its returns: what is copied, and the rest without
 -- its returns, is always the whole without them.
+
 -- ---- a line of which so many bytes at most are kept
 module _ (most b : ℕ) {kept : List ℕ} (piece : List ℕ) (holds : kept ≡ take most piece) where
   -- a byte that is kept, and one that is not
@@ -72,6 +73,7 @@ all_copied kept (x ∷ rest) whole so_far end = absurd (omega arith)
 pub ruleset copy_laws = (byte_kept, byte_dropped, all_copied)
 
 -- Runs that deliver one answer, and those that end before their answers are whole.
+
 -- a stop is no whole answer
 late : (stop : Stop) → 5 ≤ status_of stop
 late Memory = omega arith
@@ -232,6 +234,7 @@ input_known false was bytes start read left same fresh g = (left, sym same ∙ g
 pub ruleset unwritten_laws = (ran_if_any_unwritten, is_late)
 
 -- A text that is put piece by piece: what was put and what is left of it are the text so far.
+
 -- a text begins itself
 begins_itself : {text other : Text} → other ≡ text → Begins text other
 begins_itself {text} e = ([], e ∙ sym (append-nil text))

@@ -13,6 +13,7 @@ use Rattle.fields_core.proofs.TentCounting.{tent-lawful}
 use Rattle.fields_core.proofs.TentRuleLemmas as tents
 
 -- The words of a seed, the first filling that passes, and what a search finds.
+
 block_below : (n : ℕ) (key : List ℕ) (counter nonce k : ℕ) → block_word n key counter nonce k < 2 ^ 32
 unfolding block_word
 block_below n key counter nonce k = mod_below _ (2 ^ 32) (omega arith)
@@ -53,6 +54,7 @@ pub has_one : (rules : RuleSystem) → IsLawful rules → (budget : ℕ) → is_
 has_one rules laws budget one = grind (arith, common_steps, one_found, outcome-true)
 
 -- What the searches rest on, for a puzzle of each game, and what follows for their verdicts.
+
 -- what is true of the grids that the rules accept is right of the solutions, where these are the same
 pub right_of : {p : RuleSystem} (solves : List ℕ → Type 0) (o : Outcome) → ((g : List ℕ) → Solves p g ↔ solves g) → IsTrueOf p o → IsRight solves o
 right_of solves NoSolution same h = λ g s. h g ((same g).1 s)

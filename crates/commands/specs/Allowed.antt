@@ -82,6 +82,7 @@ module _ {P : Type 0} (play : PuzzleFacts P) where
   AllowsMade w text = AllowsId (play.game.sizes text) (λ size. play.game.sizes text ≡ Ok size)
       (AllowsOfSize w)
 
+-- what `generate` is asked for, by the seed and the other numbers
 abbrev pub wanted : ℕ → ℕ → ℕ → ℕ → Wanted
 wanted seed budget tries black =
     record { stream = seed_stream seed; budget = budget; tries = tries; black = black }

@@ -7,6 +7,7 @@ use Rattle.commands.specs.declared.answers.status.Stop.TheVariants.{Broken, Memo
 use Rattle.gameid_core.specs.declared.id.game.Game.{Game}
 
 -- A text with its status, and which of them a run may leave.
+
 abbrev pub Text : Type 0
 Text = List ℕ
 
@@ -83,6 +84,7 @@ pub record Delivers {S : Type 0} (takes : S → Text → S → Type 0) (old : S)
   pub whole : status < status_of Memory → (written ≡ a.text) × (status ≡ a.status)
 
 -- What a run is asked for.
+
 -- a request, apart from where its texts lie in memory
 pub data Asked : Type 0 where
   -- game, ID where there is one, budget

@@ -1,4 +1,4 @@
--- The words of the crates below that the definitions and proofs here use, from one place.
+-- Words of the crates below, as the definitions and the proofs of this crate use them. Declares nothing.
 pub use Rattle.engine_core.specs.RuleSystem.{FitsIn, IsClosed, IsLawful, RuleSystem, needs_of}
 pub use Rattle.engine_core.specs.Stored.{is_settled}
 pub use Rattle.engine_core.specs.Verdict.{IsRight, IsTrueOf, Outcome, Solves, verdict_of}
@@ -20,7 +20,7 @@ pub use Rattle.gameid_core.specs.IdTexts.{HasOneReading}
 pub use Rattle.gameid_core.specs.Puzzles.{IsPattern, IsSolo, IsTents, Light, Pattern, Solo, Tents, solo_n}
 pub use Rattle.gameid_core.specs.declared.id.fault.IdFault.{IdFault}
 pub use Rattle.gameid_core.specs.declared.id.game.Game.{Game}
-pub use Rattle.grid_core.specs.Candidates.{IsInside, count_below, grid_of, only}
+pub use Rattle.grid_core.specs.Candidates.{IsInside, grid_of, only}
 pub use Rattle.grid_core.specs.Extent.{Extent, IsExtent}
 pub use Rattle.grid_core.specs.Grids.{IsGrid}
 pub use Rattle.maker_core.specs.SoloMaking.{IsSoloMade, NoneFound}
@@ -32,6 +32,6 @@ pub use Rattle.pattern_core.specs.Solutions.{IsPatternSolution}
 pub use Rattle.rand_core.specs.Stream.{Stream}
 pub use Rattle.solo_core.specs.Faults.{IsSoloFault}
 pub use Rattle.solo_core.specs.RuleSets.{crossings_rules, houses_rules, rules_of, singles_rules}
-pub use Rattle.solo_core.specs.Scopes.{crossing_scopes, scopes_of}
+pub use Rattle.solo_core.specs.Scopes.{scopes_of}
 pub use Rattle.solo_core.specs.SolutionLaws.{rule_from_test, test_from_rule}
 pub use Rattle.solo_core.specs.Solutions.{IsSoloSolution}

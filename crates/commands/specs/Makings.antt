@@ -9,6 +9,7 @@ use Rattle.commands.specs.Answers.{Answer, Text, answer_with, code_of}
 use Rattle.commands.specs.declared.answers.status.Status.TheVariants.{Fine, GaveUp}
 
 -- What a seed's generator is, and what it will answer.
+
 -- the key: the seed's eight bytes, least first, and 24 zero bytes
 abbrev pub seed_key : ℕ → List ℕ
 seed_key seed = to_le_bytes w64 seed ++ replicate 24 0
@@ -18,6 +19,7 @@ abbrev pub seed_stream : ℕ → Stream
 seed_stream seed = stream_of (steps_u32 (next_word 4)) (of_seed (seed_key seed))
 
 -- The answers of `generate`, by what they hand out.
+
 -- What a puzzle is made by: the words of the seed's generator, the trials of each verdict, the
 -- fillings that may be made, and the percentage of black cells.
 pub record Wanted : Type 0 where

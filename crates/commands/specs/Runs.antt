@@ -1,4 +1,4 @@
--- What a run did to its ends.
+-- A run and its two ends: what it did to them, when one is broken, and how they are as it begins.
 use Rattle.std.specs.Prelude.{◌≡◌, ◌⊎◌, ℕ, Bool, true, false}
 use Rattle.commands.specs.Answers.{Answer, Leaves, Text}
 use Rattle.commands.specs.declared.ends.Sink as sinks

@@ -42,6 +42,7 @@ pub record Wrote {S : Type 0} (takes : S → Text → S → Type 0) (allows : An
 abbrev pub BeginsIfAny : (Answer → Type 0) → Text → Type 0
 BeginsIfAny allows written = (written ≡ []) ⊎ BeginsAnswer allows written
 
+-- the same of a step that knows of an allowed answer before it writes; and of one that may not
 abbrev pub Says : {S : Type 0} → sinks.Ghosts S
     → (Answer → Type 0) → S → S → Result Status Stop → Type 0
 Says sink allows old new result =
@@ -52,6 +53,7 @@ abbrev pub Writes : {S : Type 0} → sinks.Ghosts S
 Writes sink allows old new result =
     Wrote sink.takes allows (BeginsIfAny allows) old new (status_in result)
 
+-- the same of a run with its input
 pub record RanIfAny {I O : Type 0} (source : sources.Ghosts I) (sink : sinks.Ghosts O)
     (allows : Text → Answer → Type 0) (old_input new_input : I) (old_output new_output : O)
     (status : ℕ) : Type 0 where

@@ -17,9 +17,11 @@ use Rattle.commands.specs.declared.generate.Recipe.{Recipe}
 use Rattle.commands.specs.declared.generate.makable.Unmade.{Unmade}
 use Rattle.commands.specs.declared.generate.makable.Unmade.TheVariants.{Size, Exhausted, Memory}
 
+-- what a recipe asks for
 abbrev pub wanted_in : Recipe → Wanted
 wanted_in recipe = wanted recipe.seed recipe.limits.budget recipe.limits.tries recipe.black.value
 
+-- the answer's own word for a maker's fault
 abbrev pub unmade_by : MakeFault → Unmade
 unmade_by fault.SizeRange = Size SizeRange
 unmade_by fault.Exhausted = Exhausted

@@ -66,7 +66,8 @@ impl Batch {
 
     /// Adds the text of a reply to the answers, and keeps the greater status.
     fn add_reply(&mut self, reply: &Reply) -> Result<(), AllocError>
-        ensures added { OnOk result (unput self.new ≡ unput self.old ++ (answer_in reply.now).text) }
+        ensures added { OnOk result
+            (unput self.new ≡ unput self.old ++ (answer_in reply.now).text) }
         ensures status { OnOk result
             (IsGreater self.old.status reply.now.status self.new.status) }
         ensures stays { OnErr result (unput self.new ≡ unput self.old) }

@@ -66,7 +66,8 @@ fn check_one<P: Checked + Drop, I: Source, O: Sink>(
     requires { AreNew I.Source O.Sink input.old output.old }
     ensures ran { RanIfAny I.Source O.Sink (AllowsCheck P.Played id.now)
         input.old input.new output.old output.new (status_in result) }
-    ensures left { LeavesEnds I.Source O.Sink (is_spelled P.game id.now) input.new output.new result }
+    ensures left { LeavesEnds I.Source O.Sink (is_spelled P.game id.now)
+        input.new output.new result }
 {
     match P::read_id(alloc, id) {
         Ok(puzzle) => check_input(alloc, &puzzle, input, output),

@@ -207,7 +207,8 @@ pub trait Graded: Solvable {
     /// Says the grade, and then a trace if one is asked for. Gives the status of the run.
     fn say_grade<O: Sink>(&self, alloc: Global, options: GradeOptions, output: &mut O) -> RunResult
         requires { O.has_failed output.old ≡ false }
-        ensures answer { Writes O.Sink (Grades Self.Played options self.now) output.old output.new result }
+        ensures answer { Writes O.Sink (Grades Self.Played options self.now)
+            output.old output.new result }
         ensures left { LeavesSink O.Sink output.new result };
 }
 
@@ -241,7 +242,8 @@ pub fn grade_id<O: Sink>(
     output: &mut O,
 ) -> RunResult
     requires { O.has_failed output.old ≡ false }
-    ensures answer { Says O.Sink (GradesId (game_of game) id.now options) output.old output.new result }
+    ensures answer { Says O.Sink (GradesId (game_of game) id.now options)
+        output.old output.new result }
     ensures left { LeavesSink O.Sink output.new result }
 {
     by_game!(game, grade_one::<_, O>(alloc, id, options, output))

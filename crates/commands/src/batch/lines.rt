@@ -52,7 +52,8 @@ impl InputLine {
 
     /// Takes one more byte of the line.
     pub fn push(&mut self, byte: u8) -> Result<(), AllocError>
-        ensures { OnOk result ((kept : Text) → Holds self.old kept → Holds self.new (kept ++ byte ∷ [])) }
+        ensures { OnOk result
+            ((kept : Text) → Holds self.old kept → Holds self.new (kept ++ byte ∷ [])) }
     {
         if self.kept.len() < LINE_LIMIT {
             self.kept.push(byte)?;

@@ -23,7 +23,8 @@ struct Kept {
 impl Kept {
     /// Takes more bytes.
     fn take(&mut self, chunk: &[u8]) -> Result<(), AllocError>
-        ensures { OnOk result ((seen : Text) → IsKeptText self.old seen → IsKeptText self.new (seen ++ chunk.now)) }
+        ensures { OnOk result ((seen : Text) → IsKeptText self.old seen
+            → IsKeptText self.new (seen ++ chunk.now)) }
     {
         if self.is_over || chunk.len() > TEXT_LIMIT - self.bytes.len().min(TEXT_LIMIT) {
             self.is_over = true;

@@ -99,7 +99,8 @@ fn say_by_houses<O: Sink>(
     output: &mut O,
 ) -> RunResult
     requires { O.has_failed output.old ≡ false }
-    ensures answer { Writes O.Sink (GradesPastSingles options puzzle.now) output.old output.new result }
+    ensures answer { Writes O.Sink (GradesPastSingles options puzzle.now)
+        output.old output.new result }
     ensures left { LeavesSink O.Sink output.new result }
 {
     let houses = SoloHouses::new(alloc, puzzle)?;
@@ -127,7 +128,8 @@ fn say_by_crossings<O: Sink>(
     output: &mut O,
 ) -> RunResult
     requires { O.has_failed output.old ≡ false }
-    ensures answer { Writes O.Sink (GradesPastHouses options puzzle.now) output.old output.new result }
+    ensures answer { Writes O.Sink (GradesPastHouses options puzzle.now)
+        output.old output.new result }
     ensures left { LeavesSink O.Sink output.new result }
 {
     let crossings = SoloCrossings::new(alloc, puzzle)?;

@@ -22,7 +22,8 @@ const LINE: usize = 60;
 /// Adds the line of a visit to a text.
 fn push_visit<P: Named>(puzzle: &P, visit: usize, text: &mut String) -> Result<(), AllocError>
     requires { visit < P.named puzzle.now }
-    ensures line { OnOk result (Adds (line_of (P.game.visit_name puzzle.now visit)) text.old text.new) }
+    ensures line { OnOk result
+        (Adds (line_of (P.game.visit_name puzzle.now visit)) text.old text.new) }
     ensures short { OnOk result (string_len text.new ≤ string_len text.old + LINE) }
 {
     puzzle.push_name(visit, text)?;
