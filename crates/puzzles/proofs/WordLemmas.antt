@@ -19,6 +19,7 @@ use Rattle.clap.specs.declared.parser.matches.ArgMatches.{ArgMatches}
 use Rattle.clap.proofs.WalkLemmas.{both, first_value-rows}
 
 -- Commands with one more argument, and with one more command.
+
 pub with_arg : {app : App} {old new : Command} {a : Arg} {rule : Rule} → IsApp app old → AddsArg old a new
     → rule_of a ≡ rule → a.global ≡ false → IsApp (with_rule app rule) new
 with_arg is adds rule local = (
@@ -43,6 +44,7 @@ pub long_is : (a : Arg) {b : Arg} {rule : Rule} {name : Bor Text} → b ≡ reco
 long_is a {name = name} is rule = ap rule_of is ∙ ap (λ (r : Rule). record r { long = Some name.now }) rule
 
 -- From what parses ensure to what the words mean, and to the number of a text.
+
 simple_and_free : is_simple_and_free puzzles_app ≡ true
 simple_and_free = refl
 

@@ -37,7 +37,8 @@ fn answer<I: Source, O: Sink>(
     requires { AreNew I.Source O.Sink input.old output.old }
     ensures ran { Ran I.Source O.Sink (Allows (request_of words.now))
         input.old input.new output.old output.new (status_in result) }
-    ensures left { LeavesEnds I.Source O.Sink (is_input_read words.now) input.new output.new result }
+    ensures left { LeavesEnds I.Source O.Sink (is_input_read words.now)
+        input.new output.new result }
 {
     each_request_has_an_answer();
     let text = String::new(alloc);
@@ -81,7 +82,8 @@ pub fn run<I: Source, O: Sink>(alloc: Global, words: &[String], input: &mut I, o
     ensures broken { result ≡ BROKEN → IsBroken I.Source input.new (O.has_failed output.new) }
     ensures few { I.call_count input.new ≤ call_limit }
     ensures unread { is_input_read words.now ≡ false → I.call_count input.new ≡ 0 }
-    ensures ended { is_input_read words.now ≡ true → result < NO_MEMORY → I.has_ended input.new ≡ true }
+    ensures ended { is_input_read words.now ≡ true → result < NO_MEMORY
+        → I.has_ended input.new ≡ true }
 {
     match answer(alloc, words, input, output) {
         Ok(status) => status.code(),
