@@ -15,7 +15,7 @@ use Rattle.pattern_core.specs.Solutions.{FailsPattern, pattern_tests}
 use Rattle.solo_core.specs.Faults.{FailsSolo, given_tests, house_tests}
 use Rattle.pattern_core.proofs.FaultLemmas.{pattern_known, pattern_none, pattern_sound}
 use Rattle.solo_core.proofs.RepeatLemmas.{solo_known, solo_none, solo_sound}
-use Rattle.commands.proofs.Readings.{AreSame, IsCellText, ReadsCells, grid_is_text, grid_read, light_cell_text, light_in, light_reads, pattern_cell_text, pattern_reads, plain_kept, printed_read, solo_cell_text, solo_in, solo_reads, symbol_in, tents_cell_text, tents_in, tents_reads}
+use Rattle.commands.proofs.Readings.{AreSameAnswers, IsCellText, ReadsCells, grid_is_text, grid_read, light_cell_text, light_in, light_reads, pattern_cell_text, pattern_reads, plain_kept, printed_read, solo_cell_text, solo_in, solo_reads, symbol_in, tents_cell_text, tents_in, tents_reads}
 
 -- a fact is so, or it is not
 abbrev pub Decided : Type 0 → Type 0
@@ -201,7 +201,7 @@ module _ {P : Type 0} (play : PuzzleFacts P) (p : P) (game : CheckedPuzzle play 
   ]
 
   -- ---- and no other
-  pub check_same : (input : Text) → AreSame (AllowsGrid play p input)
+  pub check_same : (input : Text) → AreSameAnswers (AllowsGrid play p input)
   check_same input a b (inl x) (inl y) = game.told.alone y.grid a b (subst (λ g. play.game.checks p g a) (x.only y.grid y.given) x.said) y.said
   check_same input a b (inl x) (inr y) = absurd (y.none x.grid x.given)
   check_same input a b (inr x) (inl y) = absurd (x.none y.grid y.given)

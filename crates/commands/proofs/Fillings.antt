@@ -137,7 +137,7 @@ lines_are count size s some few few_groups words =
     record { order = line_order_from_groups count size groups _ some outer.order all.grouped; words = all.words }
 
 -- a filling that keeps to the rules where it is there, and words after it
-record IsFilled (c r : ℕ) (x : Bool) (q : Option (List ℕ) × Stream) : Type 0 where
+record IsFillingDrawn (c r : ℕ) (x : Bool) (q : Option (List ℕ) × Stream) : Type 0 where
   solution : IfSome q.0 (λ g. IsSoloSolution (all_given c r x g) g)
   words : HasWords q.1
 
@@ -145,7 +145,7 @@ module _ (c r : ℕ) (size : IsSoloSize c r) where
   few : (c < 2 ^ 32 - 1) × (r < 2 ^ 32 - 1) × (c * r < 2 ^ 32 - 1)
   few = grind (arith, common_steps, mul-le)
 
-  plain_is : (s : Stream) → HasWords s → IsFilled c r false (let plain = plain_filling c r s in (Some plain.0, plain.1))
+  plain_is : (s : Stream) → HasWords s → IsFillingDrawn c r false (let plain = plain_filling c r s in (Some plain.0, plain.1))
   plain_is s words =
       let c_low = size.c_low in
       let r_low = size.r_low in
@@ -171,7 +171,7 @@ module _ (c r : ℕ) (size : IsSoloSize c r) where
   flipped_words None t words = words
   flipped_words (Some g) t words = (draw_is 4 t (omega arith) (omega arith) words).words
 
-  x_is : (budget : ℕ) (s : Stream) → HasWords s → IsFilled c r true (x_filling c r budget s)
+  x_is : (budget : ℕ) (s : Stream) → HasWords s → IsFillingDrawn c r true (x_filling c r budget s)
   x_is budget s words =
       let numbers = order_is (c * r) s few.2 words in
       let row : List ℕ = (shuffled_order (c * r) s).0 in
@@ -184,7 +184,7 @@ module _ (c r : ℕ) (size : IsSoloSize c r) where
         words = flipped_words _ t numbers.words;
       }
 
-  filling_is : (x : Bool) (budget : ℕ) {s : Stream} → HasWords s → IsFilled c r x (solo_filling c r x budget s)
+  filling_is : (x : Bool) (budget : ℕ) {s : Stream} → HasWords s → IsFillingDrawn c r x (solo_filling c r x budget s)
   filling_is false budget {s} words = plain_is s words
   filling_is true budget {s} words = x_is budget s words
 
@@ -244,8 +244,8 @@ module _ (c r : ℕ) (size : IsSoloSize c r) where
 abbrev MadeBy : {A : Type 0} → (Extent → ℕ → Making A) → Type 0
 MadeBy {A = A} make = A
 
-abbrev LightFilling : Type 0
-LightFilling = MadeBy light_filling
+abbrev DrawnLights : Type 0
+DrawnLights = MadeBy light_filling
 
 -- ---- one filling
 whites_few : (p : Light) → length (white_places p) ≤ light_cells p
@@ -323,7 +323,7 @@ light_thinner p q ok small w = record {
 }
 
 module _ (size : Extent) (wide : IsWide size) (black budget tries : ℕ) (s : Stream) (words : HasWords s) where
-  filled_light : (f : LightFilling) → IsLight (light_puzzle_of size f)
+  filled_light : (f : DrawnLights) → IsLight (light_puzzle_of size f)
   unfolding light_puzzle_of lights_of with_numbers
   filled_light f = record {
     size = wide;
@@ -331,7 +331,7 @@ module _ (size : Extent) (wide : IsWide size) (black budget tries : ℕ) (s : St
     each = numbers_small (with_numbers (lights_of size f.black) f.bulbs).cells (numbered_small (lights_of size f.black) f.bulbs);
   }
 
-  filled_small : (f : LightFilling) (place n : ℕ) → number_clue (get_or (light_puzzle_of size f).cells place Black) ≡ Some n → n ≤ 4
+  filled_small : (f : DrawnLights) (place n : ℕ) → number_clue (get_or (light_puzzle_of size f).cells place Black) ≡ Some n → n ≤ 4
   unfolding light_puzzle_of
   filled_small f = numbered_small (lights_of size f.black) f.bulbs
 
@@ -339,7 +339,7 @@ module _ (size : Extent) (wide : IsWide size) (black budget tries : ℕ) (s : St
   pub light_thinned : (k : ℕ) → IsFirstPassing (light_filling size black) (light_passes size budget) s tries k
       → (p : Light) × (kept : List Kept) × IsLight p × IsLightMade size black budget tries s p (filling_at (light_filling size black) k s).bulbs kept
   light_thinned k first =
-      let f : LightFilling = filling_at (light_filling size black) k s in
+      let f : DrawnLights = filling_at (light_filling size black) k s in
       let all : Light = light_puzzle_of size f in
       let lit : IsLit size f = light_lit size wide black s words k in
       let ok : IsLight all = filled_light f in

@@ -1,5 +1,5 @@
 -- Grades: what they mean, how they go along with verdicts, and their texts.
-use Rattle.commands.proofs.Common.{Answer, Begins, BeginsTrace, Bool, ByRules, BySearch, Candidates, Crossings, Delivers, Found, Grade, HasOneSolution, IsClosed, IsGraded, IsInside, IsLawful, IsRight, IsRightGrade, IsTrace, List, Mark, Mark.Trial, NamedRules, NamesSetNoStrongerThanSearch, None, Option, Outcome, Outcome.GaveUp, Outcome.NoSolution, Outcome.OneSolution, Outcome.SeveralSolutions, PutsTrace, PuzzleFacts, RuleSet, RuleSystem, SaysClosing, SaysGrade, Solo, Solves, Some, StatusesAgree, Text, [], and_from, and_parts, ap, append-nil, append_assoc, arith, at_cell, branch_at, branches, cases_eq, closure_closed, closure_inside, closure_largest, codes, common_steps, cond_both, count_below-one, crossings_rules, false, false_from_ne_true, first_settled, grade_by, grade_status, grade_text, grid_of, houses_rules, inl, inr, is_dead, is_full, is_settled, is_within_search, last_tried, least_below-passes, length, length-append, length-map, listed_grade, only, only_set, outcome, refl, refused, rule_set_text, scopes_of, searched_grade, singles_rules, slice_index, spent, subst, suc, sym, trials_in, true, true≢false, verdict_answer, verdict_of, walk, walk_closed, zero, ℕ, ◌*◌, ◌++◌, ◌+◌, ◌<◌, ◌↔◌, ◌∙◌, ◌∷◌, ◌≡◌, ◌≢◌, ◌≤◌, ◌⊎◌}
+use Rattle.commands.proofs.Common.{Answer, Begins, BeginsTrace, Bool, ByRules, BySearch, Candidates, Crossings, Delivers, Found, Grade, HasOneSolution, IsClosed, IsGraded, IsInside, IsLawful, IsRight, IsRightGrade, IsTrace, List, Mark, Mark.Trial, NamedRules, NamesSetNoStrongerThanSearch, None, Option, Outcome, Outcome.GaveUp, Outcome.NoSolution, Outcome.OneSolution, Outcome.SeveralSolutions, PutsTrace, PuzzleFacts, GradedRules, RuleSystem, SaysClosing, SaysGrade, Solo, Solves, Some, StatusesAgree, Text, [], and_from, and_parts, ap, append-nil, append_assoc, arith, at_cell, branch_at, branches, cases_eq, closure_closed, closure_inside, closure_largest, codes, common_steps, cond_both, count_below-one, crossings_rules, false, false_from_ne_true, first_settled, grade_by, grade_status, grade_text, grid_of, houses_rules, inl, inr, is_dead, is_full, is_settled, is_within_search, last_tried, least_below-passes, length, length-append, length-map, listed_grade, only, only_set, outcome, refl, refused, rule_set_text, scopes_of, searched_grade, singles_rules, slice_index, spent, subst, suc, sym, trials_in, true, true≢false, verdict_answer, verdict_of, walk, walk_closed, zero, ℕ, ◌*◌, ◌++◌, ◌+◌, ◌<◌, ◌↔◌, ◌∙◌, ◌∷◌, ◌≡◌, ◌≢◌, ◌≤◌, ◌⊎◌}
 use Rattle.grid_core.proofs.GridLemmas.{grid_of-at, is_full-count}
 use Rattle.engine_core.specs.Closing.{closure}
 use Rattle.engine_core.proofs.JudgeLemmas.{dead_not_full, grid-fits}
@@ -143,10 +143,10 @@ one_or_out solves o right one_solution differ = grind (arith, common_steps)
 
 -- a list of rule sets gives the name of one, or the grade by the search
 pub named_or_searched : (sets : List NamedRules) (otherwise : Grade)
-    → ((set : RuleSet) × (first_settled sets otherwise ≡ ByRules set)) ⊎ (first_settled sets otherwise ≡ otherwise)
+    → ((set : GradedRules) × (first_settled sets otherwise ≡ ByRules set)) ⊎ (first_settled sets otherwise ≡ otherwise)
 named_or_searched [] otherwise = inr refl
 named_or_searched (first ∷ rest) otherwise =
-    cond_both (is_settled first.rules) _ _ (λ g. ((set : RuleSet) × (g ≡ ByRules set)) ⊎ (g ≡ otherwise))
+    cond_both (is_settled first.rules) _ _ (λ g. ((set : GradedRules) × (g ≡ ByRules set)) ⊎ (g ≡ otherwise))
     (λ _. inl (first.set, refl)) (λ _. named_or_searched rest otherwise)
 
 pub statuses_agree : (sets : List NamedRules) (search : RuleSystem) (solves : List ℕ → Type 0) (budget : ℕ)
@@ -155,7 +155,7 @@ pub statuses_agree : (sets : List NamedRules) (search : RuleSystem) (solves : Li
 unfolding searched_grade
 statuses_agree sets search solves budget verdict grade = by (named_or_searched sets (searched_grade search budget))
   where
-    by : ((set : RuleSet) × (listed_grade sets search budget ≡ ByRules set)) ⊎ (listed_grade sets search budget ≡ searched_grade search budget)
+    by : ((set : GradedRules) × (listed_grade sets search budget ≡ ByRules set)) ⊎ (listed_grade sets search budget ≡ searched_grade search budget)
         → StatusesAgree (grade_status (listed_grade sets search budget)) (verdict_status (verdict_of search budget))
     by (inr is) = inl (ap grade_status is ∙ by_status (trials_in (walk search 0 search.start)) (verdict_of search budget))
     by (inl named) =
@@ -189,13 +189,13 @@ module _ (search : RuleSystem) (budget : ℕ) where
       cond_both (is_settled first.rules) _ _ (λ g. is_within g ≡ false) (λ _. none.0) (λ _. beyond rest none.1)
 
   -- the search's own rules, and after them others that may strike more
-  pub own_named : (set : RuleSet) (rest : List NamedRules) → is_within_search set ≡ true → AreBeyond rest
+  pub own_named : (set : GradedRules) (rest : List NamedRules) → is_within_search set ≡ true → AreBeyond rest
       → is_within (listed_grade (record { set = set; rules = search } ∷ rest) search budget) ≡ is_settled search
   unfolding is_within
   own_named set rest same h2 = grind (arith, common_steps, beyond, is_within)
 
   -- one more rule set before the others, where what it settles the search's rules settle
-  pub weaker_named : (set : RuleSet) (weak : RuleSystem) (rest : List NamedRules)
+  pub weaker_named : (set : GradedRules) (weak : RuleSystem) (rest : List NamedRules)
       → is_within_search set ≡ true → (is_settled weak ≡ true → is_settled search ≡ true)
       → is_within (listed_grade rest search budget) ≡ is_settled search
       → is_within (listed_grade (record { set = set; rules = weak } ∷ rest) search budget) ≡ is_settled search
@@ -207,13 +207,13 @@ module _ (search : RuleSystem) (budget : ℕ) where
 marks : Text → ℕ
 marks text = slice_index text 0 + 1000 * slice_index text 1
 
-named_is : (grade : Grade) (lines rest : Text) (set : RuleSet) → is_within_search set ≡ true
+named_is : (grade : Grade) (lines rest : Text) (set : GradedRules) → is_within_search set ≡ true
     → grade_text grade ++ codes "\n" ++ lines ≡ (rule_set_text set ++ codes "\n") ++ rest → is_within grade ≡ true
 unfolding is_within marks
 named_is grade lines rest set same is = grind (arith, common_steps, marks, true≢false)
 
 names_it : (grade : Grade) (lines : Text) → is_within grade ≡ true
-    → (set : RuleSet) × (is_within_search set ≡ true) × Begins (rule_set_text set ++ codes "\n") (grade_text grade ++ codes "\n" ++ lines)
+    → (set : GradedRules) × (is_within_search set ≡ true) × Begins (rule_set_text set ++ codes "\n") (grade_text grade ++ codes "\n" ++ lines)
 unfolding is_within
 names_it (ByRules set) lines e = (set, e, (lines, refl))
 names_it grade lines e = absurd cc
@@ -285,7 +285,7 @@ pub accepted_by : {p q : RuleSystem} (solves : List ℕ → Type 0) → q ≡ p 
 accepted_by solves e same = grind (arith, common_steps)
 
 -- the last rules in the list were tried last, whether they settle the puzzle or not
-pub last_of_one : (before : RuleSystem) (set : RuleSet) {rules : RuleSystem} → rules ≡ last_tried before (only_set set rules)
+pub last_of_one : (before : RuleSystem) (set : GradedRules) {rules : RuleSystem} → rules ≡ last_tried before (only_set set rules)
 last_of_one before set = grind (arith, common_steps)
 
 module _ {P : Type 0} (play : PuzzleFacts P) (p : P) (budget : ℕ) (traced : Bool) {S : Type 0} (takes : S → Text → S → Type 0) (s t : S) (status : ℕ) where
@@ -301,12 +301,12 @@ module _ {P : Type 0} (play : PuzzleFacts P) (p : P) (budget : ℕ) (traced : Bo
   rightly sets right told = says_as (λ a said. record { right = right; said = said }) told
 
   -- the last in the list
-  pub said_last : (grade : Grade) (set : RuleSet) (rules : RuleSystem) → grade ≡ listed_grade (only_set set rules) (play.game.rules p) budget
+  pub said_last : (grade : Grade) (set : GradedRules) (rules : RuleSystem) → grade ≡ listed_grade (only_set set rules) (play.game.rules p) budget
       → IsRightGrade (play.game.solves p) grade → SaysLast grade rules → SaysBy (only_set set rules)
   said_last grade set rules e right told = grind (arith, common_steps, rightly, last_of_one)
 
   -- the first in the list settles the puzzle
-  pub said_first : {q : RuleSystem} (set : RuleSet) {rules : RuleSystem} (rest : List NamedRules) → q ≡ rules → is_settled q ≡ true
+  pub said_first : {q : RuleSystem} (set : GradedRules) {rules : RuleSystem} (rest : List NamedRules) → q ≡ rules → is_settled q ≡ true
       → SearchedPuzzle rules (play.game.solves p) → SaysLast (ByRules set) q
       → SaysBy (record { set = set; rules = rules } ∷ rest)
   said_first set {rules} rest e settled searched told =
@@ -314,12 +314,12 @@ module _ {P : Type 0} (play : PuzzleFacts P) (p : P) (budget : ℕ) (traced : Bo
       rightly (record { set = set; rules = rules } ∷ rest) (rw is (settled_one searched is)) (rw is (rw e at told))
 
   -- the first of two or more in the list doesn't
-  pub said_later : {q : RuleSystem} (set : RuleSet) {rules : RuleSystem} (next : NamedRules) (rest : List NamedRules) → q ≡ rules → is_settled q ≡ false
+  pub said_later : {q : RuleSystem} (set : GradedRules) {rules : RuleSystem} (next : NamedRules) (rest : List NamedRules) → q ≡ rules → is_settled q ≡ false
       → SaysBy (next ∷ rest) → SaysBy (record { set = set; rules = rules } ∷ next ∷ rest)
   said_later set {rules} next rest e unsettled told = grind (arith, common_steps, says_as)
 
   -- rules that were made for a puzzle are its own
-  pub said_by : {q r : RuleSystem} (set : RuleSet) → q ≡ r → SaysBy (only_set set q) → SaysBy (only_set set r)
+  pub said_by : {q r : RuleSystem} (set : GradedRules) → q ≡ r → SaysBy (only_set set q) → SaysBy (only_set set r)
   said_by set e told = subst (λ x. SaysBy (only_set set x)) e told
 
 module _ {S : Type 0} {takes : S → Text → S → Type 0} {grade : Grade} {traced : Bool} {name : ℕ → Text} {rules : RuleSystem} where

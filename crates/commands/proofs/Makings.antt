@@ -139,10 +139,10 @@ tents_extent text read e =
 abbrev MadeBy : {A : Type 0} → (Extent → Making A) → Type 0
 MadeBy {A = A} make = A
 
-abbrev TentFilling : Type 0
-TentFilling = MadeBy tent_filling
+abbrev DrawnTents : Type 0
+DrawnTents = MadeBy tent_filling
 
-tents_lawful : (size : Extent) (filling : TentFilling) → IsTentsExtent size → IsGrid (size.w * size.h) 2 filling.trees → IsTents (tents_puzzle_of size filling)
+tents_lawful : (size : Extent) (filling : DrawnTents) → IsTentsExtent size → IsGrid (size.w * size.h) 2 filling.trees → IsTents (tents_puzzle_of size filling)
 unfolding tents_puzzle_of
 tents_lawful size filling large trees =
     let w = large.w_four in
@@ -152,7 +152,7 @@ tents_lawful size filling large trees =
 tents_making : (w : Wanted) → HasWords w.stream → (text : Text) (read : SizeRead) → tents_sizes text ≡ Ok read
     → IsMaking tents_facts (λ p q. p ≡ q) w read
 tents_making w words text read is = record {
-  filling = TentFilling;
+  filling = DrawnTents;
   make = tent_filling size;
   passes = tents_pass size w.budget;
   first = λ m made. (made.k, made.first);
@@ -170,7 +170,7 @@ tents_making w words text read is = record {
     large : IsTentsExtent size
     large = tents_extent text read is
 
-    filling : ℕ → TentFilling
+    filling : ℕ → DrawnTents
     filling k = filling_at (tent_filling size) k w.stream
 
     handed : (k : ℕ) → IsFirstPassing (tent_filling size) (tents_pass size w.budget) w.stream w.tries k

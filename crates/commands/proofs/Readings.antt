@@ -29,10 +29,10 @@ pub too_long_id : {E : Type 0} (game : Game) (budget : ℕ) (result : Result Rep
 too_long_id game budget (Ok r) long told = λ id more. inl (record { fault = TooLong; first = long id more; said = told })
 too_long_id game budget (Err e) long told = tt
 
-abbrev pub AreSame : (Answer → Type 0) → Type 0
-AreSame allows = (a b : Answer) → allows a → allows b → a ≡ b
+abbrev pub AreSameAnswers : (Answer → Type 0) → Type 0
+AreSameAnswers allows = (a b : Answer) → allows a → allows b → a ≡ b
 
-pub one_of_same : {allows : Answer → Type 0} → (a : Answer) × allows a → AreSame allows → HasOneAnswer allows
+pub one_of_same : {allows : Answer → Type 0} → (a : Answer) × allows a → AreSameAnswers allows → HasOneAnswer allows
 one_of_same some same = record { answer = some.0; allowed = some.1; only = λ other is. same some.0 other some.1 is }
 
 pub told_once : (answer : Answer) → HasOneAnswer (λ a. a ≡ answer)

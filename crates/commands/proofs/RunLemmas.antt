@@ -1,5 +1,5 @@
 -- Runs: lines that are kept, answers that are delivered, and texts put in pieces.
-use Rattle.commands.proofs.Common.{Answer, Begins, BeginsAnswer, BeginsIfAny, Bool, Delivers, Err, HasAnswers, IfErr, IfOk, IfSome, IsInput, IsLine, KeptOrPut, List, None, Ok, Option, PutBegun, PutInPieces, PutUpTo, Ran, RanIfAny, Reply, Result, Some, TakesPieces, Text, Wrote, [], add-one, answer_in, ap, append-nil, append_assoc, arith, begins_with_line_end, cases_lt, common_steps, drop, each_below, false, if◌then◌else◌, inl, inr, joined, length, length-take-le, max_id, ne_eqb, refl, status_in, status_of, strip_carriage_return, subst, suc, sym, take, take-append-drop, take_all, true, true≢false, without_returns, zero, ℕ, ◌&&◌, ◌++◌, ◌+◌, ◌-◌, ◌<◌, ◌==◌, ◌∙◌, ◌∷◌, ◌≡◌, ◌≤◌, ◌⊎◌}
+use Rattle.commands.proofs.Common.{Answer, Begins, BeginsAnswer, BeginsIfAny, Bool, Delivers, Err, HasAnswers, IfErr, IfOk, IfSome, IsInput, IsInputLine, KeptOrPut, List, None, Ok, Option, PutBegun, PutInPieces, PutUpTo, Ran, RanIfAny, Reply, Result, Some, TakesPieces, Text, Wrote, [], add-one, answer_in, ap, append-nil, append_assoc, arith, begins_with_line_end, cases_lt, common_steps, drop, each_below, false, if◌then◌else◌, inl, inr, joined, length, length-take-le, max_id, ne_eqb, refl, status_in, status_of, strip_carriage_return, subst, suc, sym, take, take-append-drop, take_all, true, true≢false, without_returns, zero, ℕ, ◌&&◌, ◌++◌, ◌+◌, ◌-◌, ◌<◌, ◌==◌, ◌∙◌, ◌∷◌, ◌≡◌, ◌≤◌, ◌⊎◌}
 use Rattle.std.specs.Borrow.{Bor}
 use Rattle.std.specs.Result.{IsErr, IsErrAnd}
 use Rattle.commands.specs.declared.answers.status.Status.{Status}
@@ -29,14 +29,14 @@ strip_length l = grind (arith, common_steps, common_steps)
 -- what is told of such a line at its end, as it stands or without a return
 pub line_told : (f : List ℕ → List ℕ) → ((l : List ℕ) → length l ≤ length (f l) + 1)
     → (line : Option (Bor (List ℕ))) {kept : List ℕ} (piece : List ℕ)
-    → kept ≡ take (max_id + 2) piece → IsLine line (f kept) → IfSome line (λ l. length l.now ≤ max_id) → IsLine line (f piece)
+    → kept ≡ take (max_id + 2) piece → IsInputLine line (f kept) → IfSome line (λ l. length l.now ≤ max_id) → IsInputLine line (f piece)
 line_told f less line {kept} piece holds told within = elim (cases_lt _ _) [
   | inl long ↦ by line long told within (omega (arith, less kept, ap length holds, length-take-le (max_id + 2) piece (omega arith)))
-  | inr all ↦ subst (λ l. IsLine line (f l)) (holds ∙ take_all (max_id + 2) piece all) told
+  | inr all ↦ subst (λ l. IsInputLine line (f l)) (holds ∙ take_all (max_id + 2) piece all) told
 ]
   where
-    by : (line : Option (Bor (List ℕ))) → max_id + 2 < length piece → IsLine line (f kept)
-        → IfSome line (λ l. length l.now ≤ max_id) → max_id < length (f kept) → IsLine line (f piece)
+    by : (line : Option (Bor (List ℕ))) → max_id + 2 < length piece → IsInputLine line (f kept)
+        → IfSome line (λ l. length l.now ≤ max_id) → max_id < length (f kept) → IsInputLine line (f piece)
     by None long told within over = omega (arith, less piece)
     by (Some l) long told within over =
         let few = within in

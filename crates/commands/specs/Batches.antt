@@ -29,8 +29,8 @@ abbrev pub Holds : InputLine → List ℕ → Type 0
 Holds line piece = HoldsUpTo (max_id + 2) line piece
 
 -- the line is there with these bytes, or they are too many for an ID
-abbrev pub IsLine : Option (Bor (List ℕ)) → List ℕ → Type 0
-IsLine line bytes = MatchOption line (max_id < length bytes) (λ l. l.now ≡ bytes)
+abbrev pub IsInputLine : Option (Bor (List ℕ)) → List ℕ → Type 0
+IsInputLine line bytes = MatchOption line (max_id < length bytes) (λ l. l.now ≡ bytes)
 
 -- what is allowed to a line of the task
 abbrev pub AllowsTask : Task → Text → Answer → Type 0
@@ -89,8 +89,8 @@ module _ (task : Task) where
 
 module _ {S : Type 0} (takes : S → Text → S → Type 0) (task : Task) where
   -- Whatever came before, with more bytes the batch is the next one.
-  abbrev pub GoesOn : Batch → Batch → Text → S → S → Type 0
-  GoesOn batch next more now new = (start : S) (seen : Text)
+  abbrev pub BatchGoesOn : Batch → Batch → Text → S → S → Type 0
+  BatchGoesOn batch next more now new = (start : S) (seen : Text)
       → Batched takes (AllowsTask task) start batch seen now
       → Batched takes (AllowsTask task) start next (seen ++ more) new
 

@@ -8,8 +8,8 @@ use Rattle.commands.specs.Traces.{IsTrace}
 use Rattle.commands.specs.declared.answers.status.Status.TheVariants as status
 use Rattle.commands.specs.declared.grade.Grade.{Grade}
 use Rattle.commands.specs.declared.grade.Grade.TheVariants as grade
-use Rattle.commands.specs.declared.grade.RuleSet.{RuleSet}
-use Rattle.commands.specs.declared.grade.RuleSet.TheVariants.{Singles, Houses, Crossings, Lines, Local}
+use Rattle.commands.specs.declared.grade.GradedRules.{GradedRules}
+use Rattle.commands.specs.declared.grade.GradedRules.TheVariants.{Singles, Houses, Crossings, Lines, Local}
 
 -- by a verdict, where the whole walk has so many trials
 abbrev pub grade_by : ℕ → Outcome → Grade
@@ -25,7 +25,7 @@ searched_grade rules budget =
 
 -- a rule set with its name
 pub record NamedRules : Type 0 where
-  pub set : RuleSet
+  pub set : GradedRules
   pub rules : RuleSystem
 
 -- by the first of the rule sets whose closure of the start board is full, and its grid a solution
@@ -46,7 +46,7 @@ abbrev pub listed_grade : List NamedRules → RuleSystem → ℕ → Grade
 listed_grade sets search budget = first_settled sets (searched_grade search budget)
 
 -- a list of one
-abbrev pub only_set : RuleSet → RuleSystem → List NamedRules
+abbrev pub only_set : GradedRules → RuleSystem → List NamedRules
 only_set set rules = record { set = set; rules = rules } ∷ []
 
 -- some grid is a solution, and no other is
@@ -61,7 +61,7 @@ IsRightGrade solves grade.NoSolution = (g : List ℕ) → solves g → ⊥
 IsRightGrade solves grade.SeveralSolutions = (g : List ℕ) × (h : List ℕ) × solves g × solves h × (g ≢ h)
 IsRightGrade solves grade.GaveUp = ⊤
 
-abbrev pub rule_set_text : RuleSet → Text
+abbrev pub rule_set_text : GradedRules → Text
 rule_set_text Singles = codes "singles"
 rule_set_text Houses = codes "houses"
 rule_set_text Crossings = codes "crossings"

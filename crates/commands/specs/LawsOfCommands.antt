@@ -19,8 +19,8 @@ use Rattle.commands.specs.CheckAnswers.{checked, without_returns}
 use Rattle.commands.specs.Replies.{gave_up_answer, one_answer, several_answer}
 use Rattle.commands.specs.Grades.{rule_set_text}
 use Rattle.commands.specs.declared.answers.status.Status.TheVariants.{Fine, Wrong, Several, GaveUp}
-use Rattle.commands.specs.declared.grade.RuleSet.{RuleSet}
-use Rattle.commands.specs.declared.grade.RuleSet.TheVariants.{Singles, Houses, Crossings, Lines, Local}
+use Rattle.commands.specs.declared.grade.GradedRules.{GradedRules}
+use Rattle.commands.specs.declared.grade.GradedRules.TheVariants.{Singles, Houses, Crossings, Lines, Local}
 use Rattle.commands.specs.Makings.{made_answer}
 
 -- the first text spells a puzzle, and the second is the ID that is written for it
@@ -111,7 +111,7 @@ GradedPuzzlesHaveOne = (game : Game) (id : Text) (budget : ℕ) (traced : Bool) 
 
 -- What the rule set strikes, the rules of its game's search strike too. Of `singles` that is the law
 -- `houses_strike_what_singles_strike`; `houses`, `lines` and `local` are the rules of the search.
-abbrev pub is_within_search : RuleSet → Bool
+abbrev pub is_within_search : GradedRules → Bool
 is_within_search Singles = true
 is_within_search Houses = true
 is_within_search Crossings = false
@@ -120,7 +120,7 @@ is_within_search Local = true
 
 -- the first line of the answer names such a rule set
 abbrev pub NamesSetNoStrongerThanSearch : Answer → Type 0
-NamesSetNoStrongerThanSearch answer = (set : RuleSet) × (is_within_search set ≡ true)
+NamesSetNoStrongerThanSearch answer = (set : GradedRules) × (is_within_search set ≡ true)
     × Begins (rule_set_text set ++ codes "\n") answer.text
 
 -- the grade names one exactly where a search without a trial tells the one solution
@@ -143,7 +143,7 @@ abbrev pub NamesSearch : ℕ → Answer → Type 0
 NamesSearch trials answer = Begins (codes "search " ++ decimal trials ++ codes "\n") answer.text
 
 abbrev pub NamesSet : Answer → Type 0
-NamesSet answer = (set : RuleSet) × Begins (rule_set_text set ++ codes "\n") answer.text
+NamesSet answer = (set : GradedRules) × Begins (rule_set_text set ++ codes "\n") answer.text
 
 -- An answer that begins with `search` names the least budget, which is within that of the grade.
 -- Where there is such a least budget, the answer names it, or a rule set.

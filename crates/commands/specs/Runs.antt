@@ -20,8 +20,8 @@ abbrev pub call_limit : ℕ
 call_limit = 1048576
 
 -- an end failed, or the reads were used up before the end
-abbrev pub IsBroken : {I : Type 0} → sources.Ghosts I → I → Bool → Type 0
-IsBroken source input output_failed = (source.has_failed input ≡ true) ⊎ (output_failed ≡ true)
+abbrev pub IsEndBroken : {I : Type 0} → sources.Ghosts I → I → Bool → Type 0
+IsEndBroken source input output_failed = (source.has_failed input ≡ true) ⊎ (output_failed ≡ true)
     ⊎ ((source.call_count input ≡ call_limit) × (source.has_ended input ≡ false))
 
 -- no call of the ends failed

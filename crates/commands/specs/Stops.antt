@@ -3,7 +3,7 @@
 use Rattle.std.specs.Prelude.{◌≡◌, ◌<◌, ◌≤◌, ◌⊎◌, ℕ, Bool, true, false, [], Result, Ok, Err}
 use Rattle.commands.specs.Answers.{Answer, BeginsAnswer, Delivers, IsInput, Text, code_of, status_of}
 use Rattle.commands.specs.Replies.{answer_in}
-use Rattle.commands.specs.Runs.{IsBroken, NoneFailed, call_limit}
+use Rattle.commands.specs.Runs.{IsEndBroken, NoneFailed, call_limit}
 use Rattle.commands.specs.declared.answers.reply.Reply.{Reply}
 use Rattle.commands.specs.declared.answers.status.Status.{Status}
 use Rattle.commands.specs.declared.answers.status.Stop.{Stop}
@@ -22,7 +22,7 @@ pub record StopsWith {I : Type 0} (source : sources.Ghosts I) (stop : Stop) (inp
     (output_failed : Bool) : Type 0 where
   pub memory : is_broken stop ≡ false
       → (source.has_failed input ≡ false) × (output_failed ≡ false)
-  pub cause : is_broken stop ≡ true → IsBroken source input output_failed
+  pub cause : is_broken stop ≡ true → IsEndBroken source input output_failed
 
 -- the status that was found, or that of the stop
 abbrev pub status_in : Result Status Stop → ℕ
@@ -95,7 +95,7 @@ pub record LeavesEnds {I O : Type 0} (source : sources.Ghosts I) (sink : sinks.G
   pub sound : status_in result ≤ status_of Memory → NoneFailed source sink input output
   pub sent : status_in result < status_of Memory → sink.is_flushed output ≡ true
   pub broken : status_in result ≡ status_of Broken
-      → IsBroken source input (sink.has_failed output)
+      → IsEndBroken source input (sink.has_failed output)
   pub few : source.call_count input ≤ call_limit
   pub unread : reads ≡ false → source.call_count input ≡ 0
   pub ended : reads ≡ true → status_in result < status_of Memory

@@ -1,7 +1,7 @@
 //! Many IDs, one a line.
 ghost use Rattle.std.specs.Prelude.{◌≡◌, ◌≤◌, ◌∷◌, ◌++◌, [], true, false, IfOk, IfErr, OnErr, OnOk};
 ghost use Rattle.commands.specs.Answers.{PutBegun, Text, IsGreater};
-ghost use Rattle.commands.specs.Batches.{EndsIn, EndsWith, GathersAll, GathersOn, GathersUpTo, GoesOn, StopsIn, StopsReading, TakesTask, AllowsTask, Holds, IsLine, RanLines, unput};
+ghost use Rattle.commands.specs.Batches.{EndsIn, EndsWith, GathersAll, GathersOn, GathersUpTo, BatchGoesOn, StopsIn, StopsReading, TakesTask, AllowsTask, Holds, IsInputLine, RanLines, unput};
 ghost use Rattle.commands.specs.Replies.{answer_in};
 ghost use Rattle.commands.specs.Runs.{AreNew, call_limit};
 ghost use Rattle.commands.specs.Stops.{LeavesEnds, StopsWith, is_broken};
@@ -40,7 +40,7 @@ fn line_reply(
     text: String,
 ) -> Result<Reply, AllocError>
     ensures { IfOk result
-        (λ r. (id : Text) → IsLine line.entry id → AllowsTask task id (answer_in r)) }
+        (λ r. (id : Text) → IsInputLine line.entry id → AllowsTask task id (answer_in r)) }
 {
     match line {
         Some(id) => stores.solve_id(alloc, task, id, text),
@@ -143,7 +143,7 @@ impl Batch {
         requires { O.has_failed output.old ≡ false }
         ensures fine { OnOk result (O.has_failed output.new ≡ false) }
         ensures goes_on { OnOk result
-            (GoesOn O.takes task self.old self.new chunk.now output.old output.new) }
+            (BatchGoesOn O.takes task self.old self.new chunk.now output.old output.new) }
         ensures none { OnOk result (unput self.new ≡ []) }
         ensures stopped { OnErr result
             (StopsIn O.takes task self.old chunk.now output.old output.new) }

@@ -28,7 +28,7 @@ use std::alloc::{AllocError, Global};
 
 /// The names of the rule sets.
 #[derive(Clone, Copy)]
-pub enum RuleSet {
+pub enum GradedRules {
     /// Solo, by single values and single places.
     Singles,
     /// Solo, by whole houses.
@@ -41,17 +41,17 @@ pub enum RuleSet {
     Local,
 }
 
-impl RuleSet {
+impl GradedRules {
     /// The name as it is printed.
     pub fn name(self) -> &'static str
         ensures { result.now ≡ rule_set_text self }
     {
         match self {
-            RuleSet::Singles => "singles",
-            RuleSet::Houses => "houses",
-            RuleSet::Crossings => "crossings",
-            RuleSet::Lines => "lines",
-            RuleSet::Local => "local",
+            GradedRules::Singles => "singles",
+            GradedRules::Houses => "houses",
+            GradedRules::Crossings => "crossings",
+            GradedRules::Lines => "lines",
+            GradedRules::Local => "local",
         }
     }
 }
@@ -66,7 +66,7 @@ pub struct GradeOptions {
 /// One rule set that is tried on a puzzle: its name, and the grade's options.
 #[derive(Clone, Copy)]
 pub struct Attempt {
-    pub set: RuleSet,
+    pub set: GradedRules,
     pub options: GradeOptions,
 }
 
@@ -74,7 +74,7 @@ pub struct Attempt {
 #[derive(Clone, Copy)]
 pub enum Grade {
     /// The closing by this rule set alone gives the solution.
-    ByRules(RuleSet),
+    ByRules(GradedRules),
     /// A search finds one solution, by a walk of so many trials.
     BySearch(u64),
     /// There is no solution.

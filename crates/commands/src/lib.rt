@@ -22,5 +22,5 @@ pub use ends::{CALL_LIMIT, CHUNK, Sink, Source};
 pub use games::{Stores, game_named, usual_black};
 pub use generate::percent::Percent;
 pub use generate::{Recipe, generated};
-pub use grade::{GradeOptions, RuleSet, grade_id};
+pub use grade::{GradeOptions, GradedRules, grade_id};
 pub use solve::Task;

@@ -3,7 +3,7 @@ ghost use Rattle.std.specs.Prelude.{◌≡◌, ◌<◌, ◌≤◌, true, false, 
 ghost use Rattle.commands.specs.Answers.{BeginsAnswer, answer_of};
 ghost use Rattle.commands.specs.Allowed.{Allows};
 ghost use Rattle.puzzles.specs.Requests.{is_input_read, request_of};
-ghost use Rattle.commands.specs.Runs.{AreNew, IsBroken, NoneFailed, Ran, call_limit};
+ghost use Rattle.commands.specs.Runs.{AreNew, IsEndBroken, NoneFailed, Ran, call_limit};
 ghost use Rattle.commands.specs.Stops.{DeliversReply, LeavesEnds, LeavesSink, status_in};
 
 use crate::ends::read_end::ReadEnd;
@@ -79,7 +79,7 @@ pub fn run<I: Source, O: Sink>(alloc: Global, words: &[String], input: &mut I, o
     ensures status { result ≤ BROKEN }
     ensures sound { result ≤ NO_MEMORY → NoneFailed I.Source O.Sink input.new output.new }
     ensures sent { result < NO_MEMORY → O.is_flushed output.new ≡ true }
-    ensures broken { result ≡ BROKEN → IsBroken I.Source input.new (O.has_failed output.new) }
+    ensures broken { result ≡ BROKEN → IsEndBroken I.Source input.new (O.has_failed output.new) }
     ensures few { I.call_count input.new ≤ call_limit }
     ensures unread { is_input_read words.now ≡ false → I.call_count input.new ≡ 0 }
     ensures ended { is_input_read words.now ≡ true → result < NO_MEMORY

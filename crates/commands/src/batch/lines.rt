@@ -2,7 +2,7 @@
 ghost use Rattle.std.specs.Prelude.{◌≡◌, ◌++◌, ◌∷◌, ◌≤◌, [], IfSome, OnOk, ◌==◌, length};
 ghost use Rattle.std.specs.Str.Lines.{strip_carriage_return};
 ghost use Rattle.commands.specs.Answers.{Text};
-ghost use Rattle.commands.specs.Batches.{IsLine, Holds};
+ghost use Rattle.commands.specs.Batches.{IsInputLine, Holds};
 
 use gameid_core::MAX_ID;
 use std::alloc::{AllocError, Global};
@@ -30,7 +30,7 @@ fn without_return(line: &[u8]) -> &[u8]
 
 /// The bytes, or nothing where they are too many for an ID.
 fn unless_over(line: &[u8]) -> Option<&[u8]>
-    ensures line { IsLine result line.now }
+    ensures line { IsInputLine result line.now }
     ensures within { IfSome result (λ l. length l.now ≤ MAX_ID) }
 {
     if line.len() > MAX_ID {
@@ -78,14 +78,14 @@ impl InputLine {
     /// The line where a newline ends it, or nothing where it is over-long.
     pub fn before_newline(&self) -> Option<&[u8]>
         ensures { (piece : Text) → Holds self.now piece
-            → IsLine result (strip_carriage_return piece) }
+            → IsInputLine result (strip_carriage_return piece) }
     {
         unless_over(without_return(self.kept.as_slice()))
     }
 
     /// The line where the end of the input ends it, or nothing where it is over-long.
     pub fn before_end(&self) -> Option<&[u8]>
-        ensures { (piece : Text) → Holds self.now piece → IsLine result piece }
+        ensures { (piece : Text) → Holds self.now piece → IsInputLine result piece }
     {
         unless_over(self.kept.as_slice())
     }

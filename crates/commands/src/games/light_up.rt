@@ -11,7 +11,7 @@ use crate::generate::Recipe;
 use crate::generate::makable::{Makable, Unmade};
 use crate::generate::seed::generator;
 use crate::grade::named::Named;
-use crate::grade::{Attempt, GradeOptions, Graded, RuleSet};
+use crate::grade::{Attempt, GradeOptions, Graded, GradedRules};
 use crate::played::Played;
 use crate::solve::solvable::Solvable;
 use fields_core::{LightFault, LightRules, check_lights};
@@ -64,7 +64,7 @@ impl Graded for LightPuzzle {
         output: &mut O,
     ) -> RunResult {
         let local = self.rules(alloc)?;
-        let set = RuleSet::Local;
+        let set = GradedRules::Local;
         let attempt = Attempt { set, options };
         attempt.say_by(alloc, self, &local, output)
     }

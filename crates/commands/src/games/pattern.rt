@@ -13,7 +13,7 @@ use crate::generate::Recipe;
 use crate::generate::makable::{Makable, Unmade};
 use crate::generate::seed::generator;
 use crate::grade::named::Named;
-use crate::grade::{Attempt, GradeOptions, Graded, RuleSet};
+use crate::grade::{Attempt, GradeOptions, Graded, GradedRules};
 use crate::played::Played;
 use crate::solve::solvable::Solvable;
 use gameid_core::{Game, IdFault, PatternPuzzle, read_pattern, read_size, write_pattern};
@@ -63,7 +63,7 @@ impl Graded for PatternPuzzle {
         output: &mut O,
     ) -> RunResult {
         let lines = self.rules(alloc)?;
-        let set = RuleSet::Lines;
+        let set = GradedRules::Lines;
         let attempt = Attempt { set, options };
         attempt.say_by(alloc, self, &lines, output)
     }

@@ -17,7 +17,7 @@ use crate::generate::makable::{Makable, Unmade};
 use crate::generate::seed::generator;
 use crate::grade::grading::settles;
 use crate::grade::named::{NAME, Named};
-use crate::grade::{Attempt, Grade, GradeOptions, Graded, RuleSet};
+use crate::grade::{Attempt, Grade, GradeOptions, Graded, GradedRules};
 use crate::played::Played;
 use crate::solve::solvable::Solvable;
 use engine_core::Store;
@@ -76,7 +76,7 @@ impl Graded for SoloPuzzle {
         let singles = SoloSingles::new(alloc, self)?;
         let mut store = Store::new(alloc, &singles)?;
         if settles(&mut store, &singles) {
-            let set = RuleSet::Singles;
+            let set = GradedRules::Singles;
             let attempt = Attempt { set, options };
             return attempt.say(
                 alloc,
@@ -106,7 +106,7 @@ fn say_by_houses<O: Sink>(
     let houses = SoloHouses::new(alloc, puzzle)?;
     let mut store = Store::new(alloc, &houses)?;
     if settles(&mut store, &houses) {
-        let set = RuleSet::Houses;
+        let set = GradedRules::Houses;
         let attempt = Attempt { set, options };
         return attempt.say(
             alloc,
@@ -133,7 +133,7 @@ fn say_by_crossings<O: Sink>(
     ensures left { LeavesSink O.Sink output.new result }
 {
     let crossings = SoloCrossings::new(alloc, puzzle)?;
-    let set = RuleSet::Crossings;
+    let set = GradedRules::Crossings;
     let attempt = Attempt { set, options };
     attempt.say_by(alloc, puzzle, &crossings, output)
 }

@@ -13,7 +13,7 @@ use crate::generate::Recipe;
 use crate::generate::makable::{Makable, Unmade};
 use crate::generate::seed::generator;
 use crate::grade::named::Named;
-use crate::grade::{Attempt, GradeOptions, Graded, RuleSet};
+use crate::grade::{Attempt, GradeOptions, Graded, GradedRules};
 use crate::played::Played;
 use crate::solve::solvable::Solvable;
 use fields_core::{TentFault, TentRules, check_tents};
@@ -68,7 +68,7 @@ impl Graded for TentsPuzzle {
         output: &mut O,
     ) -> RunResult {
         let local = self.rules(alloc)?;
-        let set = RuleSet::Local;
+        let set = GradedRules::Local;
         let attempt = Attempt { set, options };
         attempt.say_by(alloc, self, &local, output)
     }

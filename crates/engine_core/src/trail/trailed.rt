@@ -100,7 +100,8 @@ impl TrailedBoard {
         requires kept { IsKept (R.system rules.now) house (has self.old.board) true kept.now }
         requires as_many { length kept.now ≡ length sets.now }
         ensures dead { result ≡ true → IsDeadAfter (R.system rules.now) house (has self.old.board) }
-        ensures struck { result ≡ false → IsHouseStruck (R.system rules.now) house self.old self.new }
+        ensures struck { result ≡ false
+            → IsHouseStruck (R.system rules.now) house self.old self.new }
         ensures further { IsTrailLonger self.old self.new }
     {
         for k in 0..sets.len() {
