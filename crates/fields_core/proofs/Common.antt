@@ -89,7 +89,7 @@ pub use Rattle.fields_core.specs.LightWaits.{white_houses}
 pub use Rattle.fields_core.specs.LightPlanes.{IsColumnRun, IsRowRun, has_number, numbers_of_row, row_runs_of_row}
 unfoldable pub use Rattle.fields_core.specs.LightPlanes.{is_numbered}
 pub use Rattle.fields_core.specs.LineWords.{AreRowsOf, AreSpread, IsColumnOf, IsRowIn, IsRowOf}
-pub use Rattle.fields_core.specs.Parts.{ArePartsCounted, ArePieces, ArePlanesAlive, IsBroken, IsCount, IsHouseOf, Piece, piece_at}
+pub use Rattle.fields_core.specs.Parts.{ArePartsCounted, ArePieces, ArePlanesAlive, IsBroken, IsCount, IsHouseOf, Piece, piece_at, pieces_of}
 unfoldable pub use Rattle.fields_core.specs.Parts.{lies_in, lies_in_first, without_value}
 pub use Rattle.fields_core.specs.Sweeps.{IsSweep, swept_by}
 pub use Rattle.fields_core.specs.Count.{IsTally, stays}

@@ -46,7 +46,7 @@ pub use Rattle.fields_core.specs.LightWaits.{white_houses}
 pub use Rattle.fields_core.specs.LightPlanes.{numbers_of_row}
 unfoldable pub use Rattle.fields_core.specs.LightPlanes.{is_numbered}
 pub use Rattle.fields_core.specs.LineWords.{AreRowsOf, AreSpread, IsRowIn, IsRowOf}
-pub use Rattle.fields_core.specs.Parts.{ArePieces, ArePlanesAlive, IsBroken, IsHouseBroken, IsHouseLeft, IsHouseOf, IsStruck, Piece, piece_at, piece_of}
+pub use Rattle.fields_core.specs.Parts.{ArePieces, ArePlanesAlive, IsBroken, IsHouseBroken, IsHouseLeft, IsHouseOf, IsStruck, Piece, piece_at, piece_of, pieces_of}
 pub use Rattle.fields_core.specs.PlaneGames.{AreShortEnough, IsClosedTo}
 unfoldable pub use Rattle.fields_core.specs.Parts.{without_value}
 pub use Rattle.fields_core.specs.Sweeps.{IsSweep}

@@ -1,9 +1,10 @@
 -- Count houses as parts of lines of planes.
-use Rattle.std.specs.Prelude.{◌≡◌, ℕ, ◌-◌, ◌*◌, ◌/◌, ◌%◌, ◌<◌, Bool, true, false, not, ◌&&◌, ◌==◌, ◌⊎◌, List, length, slice_index_or}
+use Rattle.std.specs.Prelude.{◌≡◌, ℕ, ◌-◌, ◌*◌, ◌/◌, ◌%◌, ◌<◌, Bool, true, false, not, ◌&&◌, ◌==◌, ◌⊎◌, List, None, Option, Some, [], ◌∷◌, length, slice_index_or}
 use Rattle.fields_core.specs.Below.{Candidates, Extent, Layers, Line, Row, any_below, cells_of, count_below, crosses, has, has_place, lines_beside, number_of}
 use Rattle.fields_core.specs.Count.{is_open}
 use Rattle.fields_core.specs.CountHouse.{CountHouse, IsHouse, after_house}
-use Rattle.fields_core.specs.declared.planes.line_parts.Part.{Part}
+use Rattle.fields_core.specs.declared.planes.visit.Part.{Part}
+use Rattle.fields_core.specs.declared.planes.visit.Parts.{Parts}
 
 -- some places of a line, as bits
 pub record Piece : Type 0 where
@@ -12,6 +13,13 @@ pub record Piece : Type 0 where
 
 abbrev pub piece_of : {W : Type 0} → (W → ℕ) → Part W → Piece
 piece_of bits part = record { line = part.line; bits = bits part.cells }
+
+abbrev pub second_of : {W : Type 0} → (W → ℕ) → Option (Part W) → List Piece
+second_of bits None = []
+second_of bits (Some part) = piece_of bits part ∷ []
+
+abbrev pub pieces_of : {W : Type 0} → (W → ℕ) → Parts W → List Piece
+pieces_of bits parts = piece_of bits parts.first ∷ second_of bits parts.second
 
 abbrev pub piece_at : List Piece → ℕ → Piece
 piece_at pieces k = slice_index_or pieces k (record { line = Row 0; bits = 0 })

@@ -2,7 +2,6 @@
 
 pub(crate) mod game;
 pub(crate) mod light_up;
-pub(crate) mod line_parts;
 pub(crate) mod rules;
 pub(crate) mod tents;
 pub(crate) mod visit;

@@ -1,17 +1,50 @@
 //! A visit of a count house on planes: its ones are counted by words.
 
-ghost use Rattle.std.specs.Prelude.{◌<◌, ◌≡◌, ◌≤◌, false, true};
+ghost use Rattle.std.specs.Prelude.{◌<◌, ◌≡◌, ◌≤◌, false, length, true};
 ghost use Rattle.fields_core.specs.Parts.{ArePartsCounted};
-ghost use Rattle.fields_core.specs.Common.{ArePieces, ArePlanesAlive, IsFurther, IsHouseBroken, IsHouseLeft, IsStruck};
+ghost use Rattle.fields_core.specs.Common.{ArePieces, ArePlanesAlive, IsFurther, IsHouseBroken, IsHouseLeft, IsStruck, piece_at, piece_of, pieces_of};
 
-use crate::planes::line_parts::Parts;
-use grid_core::{Planes, Word};
+use grid_core::{Line, Planes, Word};
+
+/// Some cells of a line: their places along it.
+#[derive(Clone, Copy)]
+pub struct Part<W> {
+    pub line: Line,
+    pub cells: W,
+}
+
+/// A part of a line, or two parts.
+#[derive(Clone, Copy)]
+pub struct Parts<W> {
+    pub first: Part<W>,
+    pub second: Option<Part<W>>,
+}
+
+impl<W: Word> Parts<W> {
+    /// How many there are.
+    fn len(&self) -> usize
+        ensures { result ≡ length (pieces_of W.bits self.now) }
+    {
+        if self.second.is_some() { 2 } else { 1 }
+    }
+
+    /// The part of that number.
+    fn part(&self, number: usize) -> Part<W>
+        requires { number < length (pieces_of W.bits self.now) }
+        ensures { piece_of W.bits result ≡ piece_at (pieces_of W.bits self.now) number }
+    {
+        match self.second {
+            Some(part) if number > 0 => part,
+            _ => self.first,
+        }
+    }
+}
 
 /// How many cells of the parts can be a one, and how many of these are undecided: can be a zero too.
 #[inline(always)]
-fn count<W: Word, P: Parts<W>>(planes: &Planes<W>, parts: &P) -> (usize, usize)
-    requires { ArePieces planes.now.size (P.pieces parts.now) }
-    ensures { ArePartsCounted planes.now (P.pieces parts.now) result.0 result.1 }
+fn count<W: Word>(planes: &Planes<W>, parts: &Parts<W>) -> (usize, usize)
+    requires { ArePieces planes.now.size (pieces_of W.bits parts.now) }
+    ensures { ArePartsCounted planes.now (pieces_of W.bits parts.now) result.0 result.1 }
 {
     let mut may = 0;
     let mut undecided = 0;
@@ -26,10 +59,11 @@ fn count<W: Word, P: Parts<W>>(planes: &Planes<W>, parts: &P) -> (usize, usize)
 }
 
 /// Takes the value from those cells of the parts that have the other value.
-pub(crate) fn strike<W: Word, P: Parts<W>>(planes: &mut Planes<W>, parts: &P, value: u8)
-    requires pieces { ArePieces planes.old.size (P.pieces parts.now) }
+#[inline(always)]
+fn strike<W: Word>(planes: &mut Planes<W>, parts: &Parts<W>, value: u8)
+    requires pieces { ArePieces planes.old.size (pieces_of W.bits parts.now) }
     requires value_in { value < 2 }
-    ensures left { IsStruck (P.pieces parts.now) value planes.old planes.new }
+    ensures left { IsStruck (pieces_of W.bits parts.now) value planes.old planes.new }
     ensures further { IsFurther planes.old planes.new }
 {
     for number in 0..parts.len() {
@@ -43,18 +77,14 @@ pub(crate) fn strike<W: Word, P: Parts<W>>(planes: &mut Planes<W>, parts: &P, va
 /// 1 if enough cells must be ones, and 0 if all that can be ones are needed. Says whether the house has a filling: if not,
 /// nothing is taken.
 #[inline(always)]
-pub fn visit<W: Word, P: Parts<W>>(
-    planes: &mut Planes<W>,
-    parts: &P,
-    least: usize,
-    most: usize,
-) -> bool
-    requires pieces { ArePieces planes.old.size (P.pieces parts.now) }
+pub fn visit<W: Word>(planes: &mut Planes<W>, parts: &Parts<W>, least: usize, most: usize) -> bool
+    requires pieces { ArePieces planes.old.size (pieces_of W.bits parts.now) }
     requires order { least ≤ most }
     requires alive { ArePlanesAlive planes.old }
     ensures left { result ≡ true
-        → IsHouseLeft (P.pieces parts.now) least most planes.old planes.new }
-    ensures broken { result ≡ false → IsHouseBroken (P.pieces parts.now) least most planes.old }
+        → IsHouseLeft (pieces_of W.bits parts.now) least most planes.old planes.new }
+    ensures broken { result ≡ false
+        → IsHouseBroken (pieces_of W.bits parts.now) least most planes.old }
     ensures unchanged { result ≡ false → planes.new ≡ planes.old }
     ensures alive { ArePlanesAlive planes.new }
     ensures further { IsFurther planes.old planes.new }

@@ -6,8 +6,7 @@ ghost use Rattle.fields_core.specs.Common.{AreAroundAlong, AreIdleBut, ArePlanes
 use crate::light_up::cells::columns;
 use crate::planes::light_up::tables::LightTables;
 use crate::planes::light_up::waits::RunKind;
-use crate::planes::line_parts::Part;
-use crate::planes::visit::visit;
+use crate::planes::visit::{Part, Parts, visit};
 use gameid_core::{LightCell, LightPuzzle};
 use grid_core::{Fixed, Line, Planes, Word, row_place};
 
@@ -95,16 +94,16 @@ fn visit_number<W: Word>(
         LightCell::Numbered(number) => {
             let row = beside::<W>(usize::from(x)).both(tables.rows[usize::from(y)]);
             let column = beside::<W>(usize::from(y)).both(tables.columns[usize::from(x)]);
-            let parts = (
-                Part {
+            let parts = Parts {
+                first: Part {
                     line: Line::Row(y),
                     cells: row,
                 },
-                Part {
+                second: Some(Part {
                     line: Line::Column(x),
                     cells: column,
-                },
-            );
+                }),
+            };
             let ones = usize::from(number);
             visit(planes, &parts, ones, ones) || !row.either(column).is_some()
         }
@@ -183,16 +182,16 @@ impl<W: Word> LightTables<W> {
         let place = usize::from(y) * columns(puzzle) + usize::from(x);
         let row = self.row_runs[place];
         let others = self.column_runs[place].but(W::one(usize::from(y)));
-        let parts = (
-            Part {
+        let parts = Parts {
+            first: Part {
                 line: Line::Row(y),
                 cells: row,
             },
-            Part {
+            second: Some(Part {
                 line: Line::Column(x),
                 cells: others,
-            },
-        );
+            }),
+        };
         !row.is_some() || visit(planes, &parts, 1, row.count() + others.count())
     }
 

@@ -3,8 +3,7 @@
 ghost use Rattle.std.specs.Prelude.{◌<◌, ◌≡◌, ◌≤◌};
 ghost use Rattle.fields_core.specs.Common.{ArePlanesAlive, AreVisited, column_of_tents, row_of_tents};
 
-use crate::planes::line_parts::Part;
-use crate::planes::visit::visit;
+use crate::planes::visit::{Part, Parts, visit};
 use crate::tents::cells::{column_number, row_number};
 use gameid_core::TentsPuzzle;
 use grid_core::{Line, Planes, Word};
@@ -16,12 +15,16 @@ pub(crate) fn visit_column<W: Word>(planes: &mut Planes<W>, puzzle: &TentsPuzzle
     requires alive { ArePlanesAlive planes.old }
     ensures { AreVisited (column_of_tents puzzle.now x) planes.old planes.new result }
 {
-    let part = Part {
+    let first = Part {
         line: Line::Column(x),
         cells: planes.rows(),
     };
+    let parts = Parts {
+        first,
+        second: None,
+    };
     let tents = usize::from(column_number(puzzle, usize::from(x)));
-    visit(planes, &part, tents, tents)
+    visit(planes, &parts, tents, tents)
 }
 
 /// Visits the house of a row.
@@ -32,10 +35,14 @@ pub(crate) fn visit_row<W: Word>(planes: &mut Planes<W>, puzzle: &TentsPuzzle, y
     requires alive { ArePlanesAlive planes.old }
     ensures { AreVisited (row_of_tents puzzle.now y) planes.old planes.new result }
 {
-    let part = Part {
+    let first = Part {
         line: Line::Row(y),
         cells: W::all(W::places()),
     };
+    let parts = Parts {
+        first,
+        second: None,
+    };
     let tents = usize::from(row_number(puzzle, usize::from(y)));
-    visit(planes, &part, tents, tents)
+    visit(planes, &parts, tents, tents)
 }

@@ -1,4 +1,4 @@
-use Rattle.fields_core.proofs.Common.{IsCount, and_parts, arith, count_below, has_bit, length, refl, subst, sym, ◌+◌, ◌∙◌, ◌≡◌}
+use Rattle.fields_core.proofs.Common.{IsCount, and_parts, arith, count_below, has_bit, length, pieces_of, refl, subst, sym, ◌+◌, ◌∙◌, ◌≡◌}
 use Rattle.grid_core.proofs.RegionLemmas.{few_cells}
 use Rattle.fields_core.proofs.PartLemmas.{counted-first, counted-next, counted-small, line_in}
 use Rattle.fields_core.proofs.planes.visit.count.Goals as goal
@@ -17,7 +17,7 @@ line-requires-in-loop-number-clause-line_in g c =
     line_in c.requires
     (rw c.len-number-end.ensures at c.loop-number-test.true) (sym c.part-part.ensures)
 
-next : (g : _) (c : After-both-open g) → IsCount c.args.planes.now (g.P.Parts.pieces c.args.parts.now) (c.loop-number.number + 1)
+next : (g : _) (c : After-both-open g) → IsCount c.args.planes.now (pieces_of g.W.Word.bits c.args.parts.now) (c.loop-number.number + 1)
     (c.loop-number.may + count_below (has_bit (g.W.Word.bits c.both-ones.result)) g.W.Word.room)
     (c.loop-number.undecided + count_below (has_bit (g.W.Word.bits c.both-open.result)) g.W.Word.room)
 next g c =
@@ -43,7 +43,7 @@ loop-number-preserved g c = rw (c.count-may.ensures, c.count-undecided.ensures) 
 
 pub returns : goal.returns
 returns g c =
-    let last : c.loop-number.number ≡ length (g.P.Parts.pieces c.args.parts.now) =
+    let last : c.loop-number.number ≡ length (pieces_of g.W.Word.bits c.args.parts.now) =
     (let e = c.loop-number-test.false in let b = c.loop-number.auto.number-end in
     omega (arith, e, b, c.len-number-end.ensures)) in
-    subst (λ n. IsCount c.args.planes.now (g.P.Parts.pieces c.args.parts.now) n c.loop-number.may c.loop-number.undecided) last c.loop-number.invariant
+    subst (λ n. IsCount c.args.planes.now (pieces_of g.W.Word.bits c.args.parts.now) n c.loop-number.may c.loop-number.undecided) last c.loop-number.invariant

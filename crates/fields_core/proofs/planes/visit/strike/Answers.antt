@@ -1,4 +1,4 @@
-use Rattle.fields_core.proofs.Common.{further-more, further-none, refl, sym, ◌∙◌}
+use Rattle.fields_core.proofs.Common.{further-more, further-none, pieces_of, refl, sym, ◌∙◌}
 use Rattle.fields_core.proofs.PartLemmas.{line_in, struck-more, struck-none}
 use Rattle.fields_core.proofs.planes.visit.strike.Goals as goal
 
@@ -23,7 +23,7 @@ loop-number-preserved g c =
     let bits = g.W.Word.bits in let i = c.loop-number.invariant in
     record {
       left = c.take.ensures.left
-          ∙ struck-more c.args.planes.now c.loop-number.planes (g.P.Parts.pieces c.args.parts.now)
+          ∙ struck-more c.args.planes.now c.loop-number.planes (pieces_of g.W.Word.bits c.args.parts.now)
           c.loop-number.number (bits c.both-other.result) (sym c.part-part.ensures) i.further.same_size
           c.requires.value_in i.left
           (λ k. c.both-other.ensures k ∙ rw (c.line.ensures.cells k) refl);
