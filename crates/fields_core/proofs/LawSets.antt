@@ -9,7 +9,6 @@ use Rattle.fields_core.proofs.RuleLemmas.{same-shape, start-all, start-blocked}
 use Rattle.fields_core.proofs.TentCounting.{tent-counting, tent-lawful}
 use Rattle.fields_core.proofs.TentLines.{barred-alone, barred-tree, count-none, line-all, line-more, line-skip, line-start, listed-all, listed-skip, next-joined, next-none, passed-bare, passed-early, passed-edge, passed-start, square-none}
 use Rattle.fields_core.proofs.TentRuleLemmas.{count-is, listed-tents, others-unpaired, short-unpaired, solution-from-tents, tents-from-solution, tents-tell, whole-pairs}
-use Rattle.fields_core.proofs.TentWaits.{rested-woken}
 use Rattle.fields_core.proofs.VisitLemmas.{sweep-first, sweep-more}
 use Rattle.fields_core.proofs.Common.{eq-eqb, mul-lt, ne_eqb}
 
@@ -47,5 +46,3 @@ pub ruleset tent_rules_laws = (tent-counting, tents-tell, barred-tree, barred-al
 pub ruleset tent_touch_laws = (eq-eqb, ne_eqb)
 
 pub ruleset tent_sweep_laws = (sweep-first, sweep-more)
-
-pub ruleset wait_laws = (rested-woken)

@@ -1,6 +1,6 @@
 -- Which houses of Tents wait on planes, and what is kept beside these. No public contract uses these words.
 use Rattle.std.specs.Prelude.{Bool, List, false, map, nat_lt, ℕ, ◌&&◌, ◌+◌, ◌<◌, ◌||◌, ◌≡◌, ◌≤◌}
-use Rattle.fields_core.specs.Below.{Candidates, Extent, IsFurther, IsTents, Layers, Tents, Touched, has, has_bit}
+use Rattle.fields_core.specs.Below.{Candidates, Extent, IsTents, Layers, Tents, Touched, has, has_bit}
 use Rattle.fields_core.specs.CountHouse.{CountHouse, houses_below}
 use Rattle.fields_core.specs.Parts.{ArePlanesAlive}
 use Rattle.fields_core.specs.TentHouses.{column_of_tents, row_of_tents}
@@ -51,13 +51,6 @@ AreTentsSettled bits kind before now = (p : Tents) (K : Candidates)
     → AreTentsRested bits p before K
     → ((k : ℕ) → k < kind_lines p kind → AreIdle (kind_houses p kind k) K)
     → AreTentsRested bits p now K
-
--- what waits once values were taken since the trail had that length
-abbrev pub AreTentsWokenSince : {W : Type 0} → (W → ℕ) → ℕ → Layers → Waits W → Waits W → Type 0
-AreTentsWokenSince bits len planes before now = (p : Tents) (from : Layers)
-    → IsTents p → from.size ≡ p.size → from.len ≡ len
-    → ArePlanesAlive from → ArePlanesAlive planes → IsFurther from planes
-    → AreTentsRested bits p before (has from) → AreTentsRested bits p now (has planes)
 
 -- what waits once cells of these lines have lost 0, and cells of those 1: the lines of both, the trees of the rows that
 -- have lost 1 and of the rows beside these, and the squares of the rows that have lost 0

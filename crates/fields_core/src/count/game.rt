@@ -1,10 +1,11 @@
 //! What only a game knows of rules whose houses count the ones of their cells.
 
-ghost use Rattle.std.specs.Prelude.{◌*◌, ◌<◌, ◌∷◌, ◌≡◌, IfOk, List, ℕ, [], length};
-ghost use Rattle.fields_core.specs.Common.{AreNamed, AreShortEnough, CountHouse, CountPuzzle, Extent, IsCounted, IsExtent, IsGrid, Needs, house_told, rules_of};
+ghost use Rattle.std.specs.Prelude.{◌*◌, ◌<◌, ◌∷◌, ◌≡◌, IfOk, List, ℕ, [], length, true};
+ghost use Rattle.fields_core.specs.Common.{AreNamed, AreShortEnough, CountHouse, CountPuzzle, Extent, IsCounted, IsExtent, IsGrid, Needs, house_told, needs_in, rules_of};
 
 use crate::count::house::House;
 use crate::count::name::HouseName;
+use engine_core::Needs;
 use grid_core::{Grid, Size};
 use std::alloc::{AllocError, Global};
 
@@ -55,6 +56,10 @@ pub trait CountGame: Drop + Sized {
         ensures value { result ≡ extent self.now }
         ensures lawful { IsExtent result }
         ensures short { AreShortEnough all_short (rules_of (counts self.now)) result };
+
+    /// Whether words of 64 places are known to be long enough for all puzzles of these sizes.
+    fn are_short(&self, made: Needs) -> bool
+        ensures { result ≡ true → all_short (needs_in made) };
 
     /// Whether the cell can only hold 0.
     fn is_blocked(&self, place: usize) -> bool

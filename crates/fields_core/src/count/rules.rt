@@ -16,8 +16,8 @@ use std::alloc::{AllocError, Global};
 /// A copy of the puzzle, the names of its houses, and how many cells the longest has.
 #[derive(Drop)]
 pub struct CountRules<P: CountGame> {
-    puzzle: P,
-    names: Fixed<HouseName<P::Kind>>,
+    pub(crate) puzzle: P,
+    pub(crate) names: Fixed<HouseName<P::Kind>>,
     longest: usize,
     ghost counting: { IsCounted (P.counts puzzle) },
     ghost named: { AreNamed (P.told puzzle) names.items (P.counts puzzle).houses },
@@ -44,21 +44,6 @@ impl<P: CountGame> CountRules<P> {
             names,
             longest,
         })
-    }
-
-    /// The puzzle.
-    pub(crate) fn puzzle(&self) -> &P
-        ensures { result.now ≡ self.now.puzzle }
-    {
-        &self.puzzle
-    }
-
-    /// The names of its houses.
-    pub(crate) fn names(&self) -> &[HouseName<P::Kind>]
-        ensures { AreNamed (P.told self.now.puzzle) result.now
-            (P.counts self.now.puzzle).houses }
-    {
-        &self.names
     }
 
     /// The house of that number.

@@ -13,8 +13,8 @@ use crate::light_up::houses::names_of_lights;
 use crate::light_up::light_house::{LightHouse, lit_told, number_told, run_told};
 use crate::light_up::line::WhiteLine;
 use crate::light_up::lonely::has_lonely_number;
-use crate::planes::game::PlaneGame;
 use crate::planes::light_up::light_notes::LightNotes;
+use crate::planes::rules::PlaneGame;
 use engine_core::Needs;
 use gameid_core::LightPuzzle;
 use grid_core::{Grid, Size};
@@ -63,6 +63,10 @@ impl CountGame for LightPuzzle {
         LightPuzzle::size(self)
     }
 
+    fn are_short(&self, made: Needs) -> bool {
+        made.cells <= 128 // each side is 2 at least
+    }
+
     fn is_blocked(&self, place: usize) -> bool {
         !is_white(self, place)
     }
@@ -82,10 +86,6 @@ impl PlaneGame for LightPuzzle {
     type Short = LightNotes<u64>;
 
     type Long = LightNotes<u128>;
-
-    fn are_short(&self, made: Needs) -> bool {
-        made.cells <= 128 // each side is 2 at least
-    }
 
     fn completes(&self, names: &[HouseName<LightHouse>], _scratch: &mut (), _grid: &Grid) -> bool {
         !has_lonely_number(self, names)

@@ -1,13 +1,38 @@
 //! Count rules, as rules that are searched on planes: by sweeps.
 
-ghost use Rattle.std.specs.Prelude.{refl};
+ghost use Rattle.std.specs.Prelude.{◌≡◌, ℕ, refl};
+ghost use Rattle.fields_core.specs.Common.{AreMet, AreNamed, IsGrid};
 
+use crate::count::game::CountGame;
+use crate::count::name::HouseName;
 use crate::count::rules::CountRules;
-use crate::planes::game::PlaneGame;
-use engine_core::{BinaryRules, Needs, PlanePosition, PlaneRules, Searchable};
+use engine_core::{BinaryRules, Needs, PlaneNotes, PlanePosition, PlaneRules, Searchable};
 use grid_core::{Grid, Size};
 
-impl<P: PlaneGame> BinaryRules for CountRules<P> {
+/// A puzzle of count houses that is closed on planes.
+pub trait PlaneGame: CountGame {
+    /// What its rules keep beside planes of words of 64 places.
+    type Short: PlaneNotes<u64, CountRules<Self>>;
+
+    /// What its rules keep beside planes of words of 128 places.
+    type Long: PlaneNotes<u128, CountRules<Self>>;
+
+    /// Whether the grid is a solution, where blocked cells hold 0 and each house with a cell is met, by these names.
+    fn completes(
+        &self,
+        names: &[HouseName<Self::Kind>],
+        scratch: &mut Self::Scratch,
+        grid: &Grid,
+    ) -> bool
+        requires named { AreNamed (Self.told self.now) names.now ((Self.counts self.now).houses) }
+        requires fits { IsGrid ((Self.counts self.now).cells) 2 grid.now }
+        requires served { Self.serves scratch.old ((Self.counts self.now).cells) }
+        requires met { AreMet (Self.counts self.now) grid.now }
+        ensures solution { result ≡ (Self.counts self.now).is_solution grid.now }
+        ensures keeps { (n : ℕ) → Self.serves scratch.old n → Self.serves scratch.new n };
+}
+
+impl<P: CountGame> BinaryRules for CountRules<P> {
     ghost use Rattle.fields_core.specs.CountLaws.{count-alive};
 
     ghost extent = { λ r. P.extent r.puzzle };
@@ -15,11 +40,11 @@ impl<P: PlaneGame> BinaryRules for CountRules<P> {
     ghost all_short = { P.all_short };
 
     fn size(&self) -> Size {
-        self.puzzle().size()
+        self.puzzle.size()
     }
 
     fn are_short(&self, made: Needs) -> bool {
-        self.puzzle().are_short(made)
+        self.puzzle.are_short(made)
     }
 
     ghost two = { λ _. refl };
@@ -35,7 +60,7 @@ impl<P: PlaneGame> PlaneRules for CountRules<P> {
     type Long = P::Long;
 
     fn completes(&self, scratch: &mut P::Scratch, grid: &Grid) -> bool {
-        self.puzzle().completes(self.names(), scratch, grid)
+        self.puzzle.completes(&self.names, scratch, grid)
     }
 }
 

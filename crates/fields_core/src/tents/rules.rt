@@ -7,7 +7,7 @@ use crate::count::game::CountGame;
 use crate::count::house::{House, Segment, beside, count_passing};
 use crate::count::name::HouseName;
 use crate::count::rules::CountRules;
-use crate::planes::game::PlaneGame;
+use crate::planes::rules::PlaneGame;
 use crate::planes::tents::tent_notes::TentNotes;
 use crate::tents::cells::{column_number, is_tree, row_number};
 use crate::tents::check::find_fault;
@@ -74,6 +74,10 @@ impl CountGame for TentsPuzzle {
         TentsPuzzle::size(self)
     }
 
+    fn are_short(&self, made: Needs) -> bool {
+        made.scope <= 64
+    }
+
     /// A tree, and a cell with no tree beside it, can have no tent.
     fn is_blocked(&self, place: usize) -> bool {
         let size = self.size();
@@ -97,10 +101,6 @@ impl PlaneGame for TentsPuzzle {
     type Short = TentNotes<u64>;
 
     type Long = TentNotes<u128>;
-
-    fn are_short(&self, made: Needs) -> bool {
-        made.scope <= 64
-    }
 
     fn completes(
         &self,

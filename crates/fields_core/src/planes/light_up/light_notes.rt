@@ -5,7 +5,7 @@ ghost use Rattle.fields_core.specs.Common.{AreRowTables, AreTables, HasTables, I
 
 use crate::count::rules::CountRules;
 use crate::light_up::cells::{columns, rows};
-use crate::planes::game::{SweepNotes, close};
+use crate::planes::closing::{SweepNotes, close};
 use crate::planes::light_up::tables::{LightTables, cells_of_row, write_runs};
 use crate::planes::light_up::waits::LineWaits;
 use engine_core::{Needs, PlaneNotes, Taken};
@@ -83,8 +83,8 @@ impl<W: Word> PlaneNotes<W, CountRules<LightPuzzle>> for LightNotes<W> {
     }
 
     fn start(&mut self, planes: &mut Planes<W>, rules: &CountRules<LightPuzzle>) {
-        self.tables.start_rows(planes, rules.puzzle());
-        self.tables.write_columns(planes, rules.puzzle());
+        self.tables.start_rows(planes, &rules.puzzle);
+        self.tables.write_columns(planes, &rules.puzzle);
     }
 
     fn close(
@@ -94,7 +94,7 @@ impl<W: Word> PlaneNotes<W, CountRules<LightPuzzle>> for LightNotes<W> {
         _scratch: &mut (),
         from: Option<usize>,
     ) -> Taken {
-        close(self, planes, rules.puzzle(), from)
+        close(self, planes, &rules.puzzle, from)
     }
 
     ghost fits_smaller = { λ notes need had fits room.

@@ -55,7 +55,8 @@ impl<W: Word> TentNotes<W> {
             left = left.without_lowest();
         }
         if planes.len() > len {
-            self.waits.wake(planes, len);
+            let (zeros, ones) = planes.lost(len);
+            self.waits = self.waits.woken(zeros, ones);
         }
         self.waits.settle(kind);
         true

@@ -1,8 +1,7 @@
 //! Which houses of Tents wait to be visited.
-#![tactic(auto, using(crate::proofs::LawSets::wait_laws))]
 
-ghost use Rattle.std.specs.Prelude.{◌≡◌, ◌≤◌};
-ghost use Rattle.fields_core.specs.Common.{AreTentsRested, AreTentsSettled, AreTentsWoken, AreTentsWokenSince, AreWaitingLines, Candidates, HasBoard, IsClosedBut, IsSuited, IsTents, Tents, has, tent_rules, waiting};
+ghost use Rattle.std.specs.Prelude.{◌≡◌};
+ghost use Rattle.fields_core.specs.Common.{AreTentsRested, AreTentsSettled, AreTentsWoken, AreWaitingLines, Candidates, HasBoard, IsClosedBut, IsSuited, IsTents, Tents, has, tent_rules, waiting};
 
 use gameid_core::TentsPuzzle;
 use grid_core::{Planes, Touched, Word};
@@ -77,7 +76,7 @@ impl<W: Word> Waits<W> {
     }
 
     /// Lets lines wait that have lost a value, trees beside which 1 is lost, and squares that have lost 0.
-    fn woken(self, zeros: Touched<W>, ones: Touched<W>) -> Waits<W>
+    pub(crate) fn woken(self, zeros: Touched<W>, ones: Touched<W>) -> Waits<W>
         ensures { AreTentsWoken W.bits W.room self zeros ones result }
     {
         Waits {
@@ -112,15 +111,5 @@ impl<W: Word> Waits<W> {
             Kind::Trees => self.trees = W::none(),
             Kind::Squares => self.squares = W::none(),
         }
-    }
-
-    /// Wakes what has a cell that lost a value since the trail had that length.
-    #[inline(always)]
-    pub(crate) fn wake(&mut self, planes: &Planes<W>, len: usize)
-        requires { len ≤ planes.now.len }
-        ensures { AreTentsWokenSince W.bits len planes.now self.old self.new }
-    {
-        let (zeros, ones) = planes.lost(len);
-        *self = self.woken(zeros, ones);
     }
 }

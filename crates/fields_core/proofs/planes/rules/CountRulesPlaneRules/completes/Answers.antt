@@ -3,5 +3,4 @@ use Rattle.fields_core.proofs.planes.rules.CountRulesPlaneRules.completes.Goals 
 
 pub completes-requires-clause-met : goal.completes-requires-clause-met
 completes-requires-clause-met g c =
-    let rules = c.args.self.now in
-    rw c.puzzle.ensures (closed-met (g.P.CountGame.counts rules.puzzle) rules.counting.are_houses c.requires.closed)
+    let rules = c.args.self.now in closed-met (g.P.CountGame.counts rules.puzzle) rules.counting.are_houses c.requires.closed

@@ -2,7 +2,7 @@ use Rattle.fields_core.proofs.Common.{AreTentsRested, AreVisited, Columns, Rows,
 use Rattle.fields_core.specs.declared.planes.tents.waits.Kind.{Kind}
 use Rattle.fields_core.proofs.IdleLemmas.{passed-all, passed-broken}
 use Rattle.fields_core.proofs.HouseOrder.{quiet-done, quiet-next}
-use Rattle.fields_core.proofs.TentWaits.{field-further, kind-each, kind-first, kind-quiet}
+use Rattle.fields_core.proofs.TentWaits.{field-further, kind-each, kind-first, kind-quiet, rested-woken}
 use Rattle.fields_core.proofs.planes.tents.tent_notes.TentNotes.sweep_kind.Goals as goal
 use Rattle.fields_core.proofs.planes.tents.tent_notes.TentNotes.sweep_kind.Goals.{After-settle, else-len, then-len}
 
@@ -64,8 +64,8 @@ returns-clause-ready g c = λ _.
       field = rw still (field-further c.requires.ready.field further passed.visited.alive);
       rested = c.settle.ensures p (has now)
           (elim c.if-len.branch [
-            | then-len w ↦ rw w.self-is (w.wake.ensures p c.args.planes.now c.requires.ready.field.lawful size (sym c.len-len.ensures.len)
-                c.requires.ready.field.alive passed.visited.alive further before)
+            | then-len w ↦ rw w.self-is (rested-woken w.lost-zeros.ensures.lawful w.lost-zeros.ensures.zeros w.lost-zeros.ensures.ones w.woken-self.ensures
+                c.requires.ready.field.lawful size (sym c.len-len.ensures.len) c.requires.ready.field.alive passed.visited.alive further before)
             | else-len w ↦
                 let same : now.len ≡ c.args.planes.now.len = omega (arith, further.grows, w.if-len.false, c.len.ensures.len, c.len-len.ensures.len) in
                 rw (w.self-is, further.same same) before

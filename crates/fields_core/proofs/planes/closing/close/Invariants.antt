@@ -1,6 +1,6 @@
 use Rattle.fields_core.proofs.Common.{AreKept, has, rules_of, total}
 use Rattle.fields_core.proofs.PlaneSweeps.{AreSweepsOf}
-use Rattle.fields_core.proofs.planes.game.close.Given as goal
+use Rattle.fields_core.proofs.planes.closing.close.Given as goal
 
 abbrev pub invariant-closing : goal.invariant-closing
 invariant-closing g l = record {

@@ -1,8 +1,8 @@
 use Rattle.fields_core.proofs.Common.{Dead, IsClosing, Open, [], arith, has, max, refl, rules_of, swept_by, sym, true≢false, ◌+◌, ◌<◌, ◌∙◌}
 use Rattle.engine_core.proofs.AroundLemmas.{closed-in, taken-dead, taken-open}
 use Rattle.fields_core.proofs.PlaneSweeps.{alive-cells, cells-alive, closed-dead, closed-open, sweeps-few, sweeps-fewer, sweeps-none, sweeps-turn}
-use Rattle.fields_core.proofs.planes.game.close.Goals as goal
-use Rattle.fields_core.proofs.planes.game.close.Goals.{Else-len-before, Then-len-before, Then-not-sweep}
+use Rattle.fields_core.proofs.planes.closing.close.Goals as goal
+use Rattle.fields_core.proofs.planes.closing.close.Goals.{Else-len-before, Then-len-before, Then-not-sweep}
 
 -- a sweep that leaves a cell without a value ends the closing
 dead : (g : _) (c : Then-not-sweep g) → IsClosing (rules_of (g.P.CountGame.counts c.args.puzzle.now)) (has c.args.planes.now)

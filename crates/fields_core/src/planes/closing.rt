@@ -1,41 +1,12 @@
-//! What only a game knows of the planes that its search stands on.
+//! Closings of a board of count houses on planes, by sweeps.
 
-ghost use Rattle.std.specs.Prelude.{◌≡◌, ℕ, true};
+ghost use Rattle.std.specs.Prelude.{◌≡◌, true};
 ghost use Rattle.engine_core.specs.ClosingList.{IsAlive};
-ghost use Rattle.fields_core.specs.Common.{AreKept, AreMet, AreNamed, HasBoard, IsClosedBut, IsClosedIn, IsClosedTo, IsCounted, IsFurther, IsGrid, IsSweep, Layers, Needs, has, needs_in, needs_of, rules_of};
+ghost use Rattle.fields_core.specs.Common.{AreKept, HasBoard, IsClosedBut, IsClosedIn, IsClosedTo, IsCounted, IsFurther, IsSweep, Layers, Needs, has, needs_of, rules_of};
 
 use crate::count::game::CountGame;
-use crate::count::name::HouseName;
-use crate::count::rules::CountRules;
-use engine_core::{Closing, Needs, PlaneNotes, Taken};
-use grid_core::{Grid, Planes, Word};
-
-/// A puzzle of count houses that is closed on planes.
-pub trait PlaneGame: CountGame {
-    /// What its rules keep beside planes of words of 64 places.
-    type Short: PlaneNotes<u64, CountRules<Self>>;
-
-    /// What its rules keep beside planes of words of 128 places.
-    type Long: PlaneNotes<u128, CountRules<Self>>;
-
-    /// Whether words of 64 places are known to be long enough for all puzzles of these sizes.
-    fn are_short(&self, made: Needs) -> bool
-        ensures { result ≡ true → Self.all_short (needs_in made) };
-
-    /// Whether the grid is a solution, where blocked cells hold 0 and each house with a cell is met, by these names.
-    fn completes(
-        &self,
-        names: &[HouseName<Self::Kind>],
-        scratch: &mut Self::Scratch,
-        grid: &Grid,
-    ) -> bool
-        requires named { AreNamed (Self.told self.now) names.now ((Self.counts self.now).houses) }
-        requires fits { IsGrid ((Self.counts self.now).cells) 2 grid.now }
-        requires served { Self.serves scratch.old ((Self.counts self.now).cells) }
-        requires met { AreMet (Self.counts self.now) grid.now }
-        ensures solution { result ≡ (Self.counts self.now).is_solution grid.now }
-        ensures keeps { (n : ℕ) → Self.serves scratch.old n → Self.serves scratch.new n };
-}
+use engine_core::{Closing, Taken};
+use grid_core::{Planes, Word};
 
 /// What is kept of a puzzle beside planes of such words, and which houses wait while a board is closed by sweeps.
 pub trait SweepNotes<W: Word, P: CountGame>: Sized {
