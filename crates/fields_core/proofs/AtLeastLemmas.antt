@@ -1,7 +1,7 @@
 -- Houses of one at least, by the cells of theirs that can be ones.
 use Rattle.fields_core.proofs.Common.{AllByRecursion, AreIdle, Bool, Candidates, CountHouse, IsHouse, IsInside, IsTally, List, Tally, [], after_house, after_houses, and-true, and_parts, ap, arith, cases_Bool, cases_eq, cases_lt, common_steps, cond, count_by, count_by-le-length, eqb, eqb-true, false, false_from_ne_true, fun_ext, has_place, has_place-at, inl, inr, is_empty, le-ltb, length, ltb, ne_eqb, not, one_at_least, or_cases, or_left, or_right, refl, strikes_of, suc, sym, true, true≢false, without_zeros, zero, ℕ, ◌&&◌, ◌<◌, ◌||◌, ◌∙◌, ◌∷◌, ◌≡◌, ◌≢◌, ◌≤◌, ◌⊎◌}
-use Rattle.fields_core.proofs.VisitLemmas.{IsFull, after-inside, count-two, others-stay, visits-inside}
-use Rattle.fields_core.proofs.IdleLemmas.{Keeps, any_has, full-between, idle-first, idle-rest}
+use Rattle.fields_core.proofs.VisitLemmas.{IsBinaryAlive, after-inside, count-two, others-stay, visits-inside}
+use Rattle.fields_core.proofs.IdleLemmas.{KeepsIdle, any_has, full-between, idle-first, idle-rest}
 use Rattle.fields_core.proofs.PlaceLists.{count-some, count-cons, count-none, num, num-most}
 use Rattle.fields_core.proofs.HouseLemmas.{counts-same}
 use Rattle.fields_core.proofs.CountKept.{after-at, off-scope, has-value}
@@ -17,12 +17,12 @@ count-less test (x ∷ xs) d on off = elim (or_cases (eqb x d) (has_place xs d) 
 ]
 
 -- the cells of a house each have a value
-abbrev pub AreFull : List ℕ → Candidates → Type 0
-AreFull places K = (c : ℕ) → has_place places c ≡ true → (K c 0 ≡ true) ⊎ (K c 1 ≡ true)
+abbrev pub AreCellsFull : List ℕ → Candidates → Type 0
+AreCellsFull places K = (c : ℕ) → has_place places c ≡ true → (K c 0 ≡ true) ⊎ (K c 1 ≡ true)
 
 -- some cell can be a one, or there are none
-abbrev pub IsFilled : List ℕ → Candidates → Type 0
-IsFilled places K = (length places ≡ 0) ⊎ (1 ≤ count_by (λ d. K d 1) places)
+abbrev pub IsHouseFilled : List ℕ → Candidates → Type 0
+IsHouseFilled places K = (length places ≡ 0) ⊎ (1 ≤ count_by (λ d. K d 1) places)
 
 -- the cell that loses 0 by a visit
 abbrev pub is_lone : List ℕ → Candidates → ℕ → Bool
@@ -35,7 +35,7 @@ stays-is must may long zero none one low some pos few less on = rw (le-ltb _ _ p
 stays-is must may long (suc zero) none one low some pos few less on = grind (arith, common_steps, le-ltb, cases_Bool, eqb-true)
 stays-is must may long (suc (suc v)) none one low some pos few less on = absurd (omega arith)
 
-pub least-after : {cells : ℕ} {places : List ℕ} (K : Candidates) → IsHouse cells (one_at_least places) → AreFull places K → IsFilled places K → (c : ℕ) {v : ℕ} → v < 2 → K c v ≡ true
+pub least-after : {cells : ℕ} {places : List ℕ} (K : Candidates) → IsHouse cells (one_at_least places) → AreCellsFull places K → IsHouseFilled places K → (c : ℕ) {v : ℕ} → v < 2 → K c v ≡ true
     → after_house (one_at_least places) K c v ≡ not (eqb v 0 && is_lone places K c)
 unfolding after_house
 least-after {cells} {places} K is full filled c {v} low on = elim (cases_Bool (has_place places c)) [
@@ -48,7 +48,7 @@ least-after {cells} {places} K is full filled c {v} low on = elim (cases_Bool (h
       left ∙ rw (on, there) (stays-is _ _ _ v (K c 0) (K c 1) low (some w.1 filled) (omega (arith, w.1)) (count_by-le-length _ places) (λ e. count-less _ places c there (rw e refl)) (by v low on))
 ]
   where
-    some : {k : ℕ} → k < length places → IsFilled places K → 1 ≤ count_by (λ d. K d 1) places
+    some : {k : ℕ} → k < length places → IsHouseFilled places K → 1 ≤ count_by (λ d. K d 1) places
     some lt (inl none) = absurd (omega arith)
     some lt (inr one) = one
 
@@ -61,7 +61,7 @@ least-after {cells} {places} K is full filled c {v} low on = elim (cases_Bool (h
 abbrev pub IsOfTwo : Candidates → Type 0
 IsOfTwo K = (c v : ℕ) → K c v ≡ true → v < 2
 
-pub least-board : {cells : ℕ} {places : List ℕ} {K : Candidates} → IsHouse cells (one_at_least places) → AreFull places K → IsFilled places K → IsOfTwo K
+pub least-board : {cells : ℕ} {places : List ℕ} {K : Candidates} → IsHouse cells (one_at_least places) → AreCellsFull places K → IsHouseFilled places K → IsOfTwo K
     → after_house (one_at_least places) K ≡ without_zeros (is_lone places K) K
 unfolding after_house without_zeros
 least-board {cells} {places} {K} is full filled two = fun_ext λ c. fun_ext λ v. elim (cases_Bool (K c v)) [
@@ -82,8 +82,8 @@ least-broken {cells} places K is none c {v} there low =
     by a b d f = grind (arith, common_steps, cases_Bool a, cases_Bool b, cases_Bool d)
 
 -- ---- what is idle
-module _ {cells : ℕ} {places : List ℕ} (K : Candidates) (is : IsHouse cells (one_at_least places)) (full : IsFull cells K) where
-  places-full : AreFull places K
+module _ {cells : ℕ} {places : List ℕ} (K : Candidates) (is : IsHouse cells (one_at_least places)) (full : IsBinaryAlive cells K) where
+  places-full : AreCellsFull places K
   places-full c there = full.some c (is.within c there)
 
   -- ---- two cells that can be ones: the house is idle
@@ -133,7 +133,7 @@ module _ {cells : ℕ} {places : List ℕ} (K : Candidates) (is : IsHouse cells 
   unfolding without_zeros
   ones-stay some c = ap (λ (L : Candidates). L c 1) (least-board is places-full (inr some) full.low) ∙ and-true (K c 1)
 
-  pub ones-left : IsFull cells (after_house (one_at_least places) K) → (c : ℕ) → after_house (one_at_least places) K c 1 ≡ K c 1
+  pub ones-left : IsBinaryAlive cells (after_house (one_at_least places) K) → (c : ℕ) → after_house (one_at_least places) K c 1 ≡ K c 1
   ones-left after c = elim (cases_lt 0 (count_by (λ c. K c 1) places)) [
     | inl some ↦ ones-stay (omega arith) c
     | inr few ↦ others-stay (one_at_least places) K c 1 (false_from_ne_true _ (λ there.
@@ -155,7 +155,7 @@ module _ {cells : ℕ} {places : List ℕ} (K : Candidates) (is : IsHouse cells 
       by a b (inr on) = true≢false (sym on ∙ b)
 
 -- ---- an idle house stays idle where its cells lose 0 alone
-module _ {cells : ℕ} {places : List ℕ} (K L : Candidates) (is : IsHouse cells (one_at_least places)) (full : IsFull cells K) (still : IsFull cells L)
+module _ {cells : ℕ} {places : List ℕ} (K L : Candidates) (is : IsHouse cells (one_at_least places)) (full : IsBinaryAlive cells K) (still : IsBinaryAlive cells L)
     (inside : IsInside L K) (same : (c : ℕ) → has_place places c ≡ true → L c 1 ≡ K c 1) where
   counts : count_by (λ c. L c 1) places ≡ count_by (λ c. K c 1) places
   counts = counts-same _ _ places same
@@ -181,15 +181,15 @@ pub record IsAll (cells : ℕ) (house : CountHouse) : Type 0 where
   pub same : house ≡ one_at_least house.places
 
 pub alls-kept : (cells : ℕ) (houses : List CountHouse) (K L : Candidates) → AllByRecursion (IsAll cells) houses
-    → IsFull cells K → IsFull cells L → IsInside L K → ((c : ℕ) → any_has houses c ≡ true → L c 1 ≡ K c 1)
+    → IsBinaryAlive cells K → IsBinaryAlive cells L → IsInside L K → ((c : ℕ) → any_has houses c ≡ true → L c 1 ≡ K c 1)
     → AreIdle houses K → AreIdle houses L
 unfolding after_houses any_has
 alls-kept cells [] K L each full_K full_L inside ones idle = refl
 alls-kept cells (house ∷ houses) K L (is, each) full_K full_L inside ones idle = grind (arith, common_steps, idle-first, idle-kept, or_left, or_right, idle-rest, alls-kept cells houses K L each full_K full_L inside (λ c there. ones c (or_right _ _ there)))
 
 -- visits that leave each cell a value take no 1
-pub alls-ones : (cells : ℕ) (houses : List CountHouse) (K : Candidates) → AllByRecursion (IsAll cells) houses → IsFull cells K
-    → IsFull cells (after_houses houses K) → (c : ℕ) → after_houses houses K c 1 ≡ K c 1
+pub alls-ones : (cells : ℕ) (houses : List CountHouse) (K : Candidates) → AllByRecursion (IsAll cells) houses → IsBinaryAlive cells K
+    → IsBinaryAlive cells (after_houses houses K) → (c : ℕ) → after_houses houses K c 1 ≡ K c 1
 unfolding after_houses
 alls-ones cells [] K each full after c = refl
 alls-ones cells (house ∷ houses) K (is, each) full after c =
@@ -198,7 +198,7 @@ alls-ones cells (house ∷ houses) K (is, each) full after c =
     alls-ones cells houses (after_house house K) each next after c ∙ first c
 
 -- so others stay idle
-pub all-keeps : (cells : ℕ) (visited house : CountHouse) → IsAll cells visited → IsAll cells house → Keeps cells visited house
+pub all-keeps : (cells : ℕ) (visited house : CountHouse) → IsAll cells visited → IsAll cells house → KeepsIdle cells visited house
 unfolding after_houses
 all-keeps cells visited house is other K full still idle =
     rw other.same (idle-kept K (after_house visited K) other.is full still (after-inside visited K)

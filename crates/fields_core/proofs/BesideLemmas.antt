@@ -72,6 +72,7 @@ steps-few size c zero = grind (arith, common_steps)
 steps-few size c (suc n) = grind (arith, common_steps, there-few, length-append, steps-few size c n)
 
 -- Cells beside each other: each is beside the other, and they lie in the grid.
+
 -- the row and the column of a cell
 pub cell-parts : {w : ℕ} (q : ℕ) {r : ℕ} (d : ℕ) → r < w → d ≡ q * w + r → (d / w ≡ q) × (d % w ≡ r)
 cell-parts q d lt e = grind (arith, common_steps, div-mul-add)

@@ -2,6 +2,7 @@
 use Rattle.fields_core.proofs.Common.{AreDistinct, AreRowsOf, Bool, Column, Extent, IsHouse, IsHouseOf, IsRowOf, Layers, Line, List, Row, ℕ, [], and-false, and_from, and_parts, any_below, ap, arith, at_line, bit_of, cases_Bool, cases_eq, cases_lt, column_places, common_steps, cond, count_below, count_below-none, count_below-same, count_by, crosses, div-add-mod', div-mul-add, eq-eqb, eqb, eqb-true, exactly, false, false_from_ne_true, get_or, get_or-map, get_or-map-range_with_len, get_or-set_other, get_or-set_same, has, has_bit, has_place, has_place-at, has_place-here, inl, inr, le-ltb, length, length-map, length-map-range_with_len, lies_in, lies_in_first, line_len, lines_beside, list_any-append, lt-ltb, ltb, ltb-true, map, map-set, mod-lt, ne_eqb, number_of, or-false, or-true, place-column, range_with_len, refl, row_places, set, slice_index, suc, sum_by-cons, sym, true, true≢false, zero, ◌%◌, ◌&&◌, ◌*◌, ◌++◌, ◌+◌, ◌/◌, ◌<◌, ◌||◌, ◌∙◌, ◌∷◌, ◌≡◌, ◌≢◌, ◌≤◌, ◌⊎◌}
 
 -- Pieces of lines, and the cells that they have.
+
 -- ---- one piece
 pub same-truth : (a b : Bool) → (a ≡ true → b ≡ true) → (b ≡ true → a ≡ true) → a ≡ b
 same-truth a b to from = grind (arith, common_steps, cases_Bool a, cases_Bool b)
@@ -56,6 +57,7 @@ unfolding has_place
 has-append xs ys c = list_any-append (λ x. eqb x c) xs ys
 
 -- How many cells of a grid lie in pieces of lines.
+
 -- ---- counts in two steps
 count-add : (p : ℕ → Bool) (m n : ℕ) → count_below p (m + n) ≡ count_below p m + count_below (λ k. p (m + k)) n
 unfolding count_below

@@ -42,7 +42,7 @@ unfoldable pub use Rattle.grid_core.specs.Words.{differ}
 pub use Rattle.grid_core.specs.declared.planes.line.Line.{Line}
 pub use Rattle.grid_core.specs.declared.planes.line.Line.TheVariants.{Column, Row}
 pub use Rattle.grid_core.specs.declared.planes.touched_lines.Touched.{Touched}
-pub use Rattle.gameid_core.proofs.FirstFailed.{AreRight, IsKnown, IsMade, Kind, first_in, known_tests, none_exactly, none_held, none_right, none_tells}
+pub use Rattle.gameid_core.proofs.FirstFailed.{AreRight, IsKnown, IsKindMade, TestKind, first_in, known_tests, none_exactly, none_held, none_right, none_tells}
 pub use Rattle.gameid_core.proofs.FirstFailed.{right_none, tests}
 pub use Rattle.gameid_core.specs.FirstFailed.{IsFirstFailed, NoneFails}
 pub use Rattle.gameid_core.specs.Puzzles.{AreCounts, IsLight, IsLightCell, IsTents, Light, Tents}

@@ -6,6 +6,7 @@ use Rattle.grid_core.specs.Board.{cells_of, has}
 use Rattle.grid_core.proofs.BoardLemmas.{has-within}
 
 -- Which numbers of ones the fillings of a house's cells have, and what that says of a value of a cell.
+
 -- how many cells must hold a one, and how many may
 abbrev pub must_of : Candidates → List ℕ → ℕ
 must_of K places = count_by (λ c. not (K c 0)) places
@@ -14,8 +15,8 @@ abbrev pub may_of : Candidates → List ℕ → ℕ
 may_of K places = count_by (λ c. K c 1) places
 
 -- each cell has a value
-abbrev pub IsFull : Candidates → List ℕ → Type 0
-IsFull K places = (k : ℕ) → k < length places → (K (slice_index places k) 0 ≡ true) ⊎ (K (slice_index places k) 1 ≡ true)
+abbrev pub HaveValues : Candidates → List ℕ → Type 0
+HaveValues K places = (k : ℕ) → k < length places → (K (slice_index places k) 0 ≡ true) ⊎ (K (slice_index places k) 1 ≡ true)
 
 yes : {b : Bool} → b ≡ true → num b ≡ 1
 yes e = rw e refl
@@ -51,7 +52,7 @@ ones-bounds K (x ∷ xs) (v ∷ f) p =
     by (suc zero) on r a b = let o = yes on.1 in let m = num-most (not (K x 0)) in (omega (arith, r.0), omega (arith, r.1))
     by (suc (suc u)) on r a b = absurd (omega (arith, on.0))
 
-must-under : (K : Candidates) (places : List ℕ) → IsFull K places → must_of K places ≤ may_of K places
+must-under : (K : Candidates) (places : List ℕ) → HaveValues K places → must_of K places ≤ may_of K places
 must-under K [] full = omega arith
 must-under K (x ∷ xs) full =
     by (full 0 (omega arith)) (must-under K xs (λ k lt. full (suc k) (omega arith))) (count-cons _ x xs) (count-cons _ x xs)
@@ -66,7 +67,7 @@ must-under K (x ∷ xs) full =
 abbrev Reached : Candidates → List ℕ → ℕ → Type 0
 Reached K places n = (f : List ℕ) × Fills (sets_at 2 places K) f × (nonzeros f ≡ n)
 
-reached-more : (K : Candidates) (x : ℕ) (xs : List ℕ) {n : ℕ} → IsFull K (x ∷ xs) → must_of K (x ∷ xs) ≤ n → n ≤ may_of K (x ∷ xs)
+reached-more : (K : Candidates) (x : ℕ) (xs : List ℕ) {n : ℕ} → HaveValues K (x ∷ xs) → must_of K (x ∷ xs) ≤ n → n ≤ may_of K (x ∷ xs)
     → ((m : ℕ) → must_of K xs ≤ m → m ≤ may_of K xs → Reached K xs m) → Reached K (x ∷ xs) n
 unfolding sets_at
 reached-more K x xs {n} full low high rest = elim (cases_Bool (K x 0)) [
@@ -96,7 +97,7 @@ reached-more K x xs {n} full low high rest = elim (cases_Bool (K x 0)) [
         let w = rest (n - 1) (omega arith) (omega (arith, may_cons, yes o)) in
         (1 ∷ w.0, Fills-cons _ (sets_at 2 xs K) 1 w.0 (sets_at-value 2 (x ∷ xs) K 0 1 (omega arith) (omega arith) ∙ o) w.1, omega (arith, w.2))
 
-ones-reached : (K : Candidates) (places : List ℕ) (n : ℕ) → IsFull K places → must_of K places ≤ n → n ≤ may_of K places → Reached K places n
+ones-reached : (K : Candidates) (places : List ℕ) (n : ℕ) → HaveValues K places → must_of K places ≤ n → n ≤ may_of K places → Reached K places n
 unfolding sets_at
 ones-reached K [] n full low high = ([], record { len = refl; each = λ k lt. absurd (omega arith) }, omega arith)
 ones-reached K (x ∷ xs) n full low high = reached-more K x xs full low high (λ m. ones-reached K xs m (λ k lt. full (suc k) (omega arith)))
@@ -139,7 +140,7 @@ module _ (K : Candidates) (places : List ℕ) (k v : ℕ) (different : AreDiffer
       by : (u : ℕ) → u < 2 → u ≡ v → num (fixed cell 1) ≡ u
       by u l e = grind (arith, common_steps, cases_eq u 0, own-is, own-alone)
 
-  full-fixed : IsFull K places → IsFull fixed places
+  full-fixed : HaveValues K places → HaveValues fixed places
   full-fixed full j lj = grind (arith, common_steps, cases_eq, slice_index, own-is)
 
   -- a filling with the value at the cell fills the fixed board, and the other way round
@@ -163,7 +164,7 @@ module _ (K : Candidates) (places : List ℕ) (k v : ℕ) (different : AreDiffer
       → (least ≤ most) × (least + num (K cell 1) ≤ may_of K places + v) × (must_of K places + v ≤ most + num (not (K cell 0)))
   shown-bounds least most (f, s) = grind (arith, common_steps, ones-bounds, fixed-filled, and_parts, leb-true, must-fixed, may-fixed)
 
-  pub bounds-shown : {least most : ℕ} → IsFull K places → least ≤ most → least + num (K cell 1) ≤ may_of K places + v
+  pub bounds-shown : {least most : ℕ} → HaveValues K places → least ≤ most → least + num (K cell 1) ≤ may_of K places + v
       → must_of K places + v ≤ most + num (not (K cell 0))
       → IsShown (counts_between least most) (sets_at 2 places K) k v
   bounds-shown {least} {most} full order few many =
@@ -175,11 +176,12 @@ module _ (K : Candidates) (places : List ℕ) (k v : ℕ) (different : AreDiffer
       (w.0, record { fills = o.0; holds_true = and_from _ _ (le-leb least _ (omega (arith, w.2))) (le-leb _ most (omega (arith, w.2))); has_it = o.1 })
 
   -- a cell that has both values may hold a one and need not
-  pub open-room : IsFull K places → is_open K cell ≡ true → must_of K places < may_of K places
+  pub open-room : HaveValues K places → is_open K cell ≡ true → must_of K places < may_of K places
   open-room full both =
       let w = and_parts (K cell 0) (K cell 1) both in omega (arith, must-fixed, may-fixed, no w.0, yes w.1, must-under fixed places (full-fixed full))
 
 -- What a visit of a count house leaves of its cells, by the tally of the house.
+
 -- ---- a cell that is empty
 not-empty : (K : Candidates) (c : ℕ) {v : ℕ} → v < 2 → K c v ≡ true → is_empty K c ≡ true → ⊥
 not-empty K c {v} low on none = grind (arith, common_steps, cases_eq v 0, and_parts)
@@ -214,7 +216,7 @@ module _ (cells : ℕ) (house : CountHouse) (K : Candidates) (t : Tally) (is : I
   abbrev struck : ℕ → ℕ → Bool
   struck k v = strikes_by_fillings (counts_between house.least house.most) (sets_at 2 house.places K) k v
 
-  full : t.empty ≡ 0 → IsFull K house.places
+  full : t.empty ≡ 0 → HaveValues K house.places
   full none k lt = grind (arith, common_steps, cases_Bool, count-some, has_place-here)
 
   abbrev Shown : ℕ → ℕ → Type 0
@@ -278,6 +280,7 @@ two-bits zero_in one_in (suc zero) low = grind (arith, common_steps, cases_Bool 
 two-bits zero_in one_in (suc (suc v)) low = absurd (omega arith)
 
 -- What a visit of a count house leaves, and how long the longest house is.
+
 -- ---- the cells of a house are in the board
 pub cell-in : {cells : ℕ} {house : CountHouse} → IsHouse cells house → {k c : ℕ} → c ≡ slice_index house.places k → k < length house.places → c < cells
 cell-in {house = house} is {k} here lt = rw here (is.within _ (has_place-here house.places k lt))

@@ -37,6 +37,7 @@ all-at P (house ∷ houses) {h = zero} all lt = all.0
 all-at P (house ∷ houses) {h = suc h} all lt = all-at P houses all.1 (omega arith)
 
 -- Houses told by segments, and names of houses.
+
 -- ---- the cells of a segment
 pub segment-long : (s : Segment) → s.len ≡ length (segment_places s)
 segment-long s = sym (length-map-range_with_len _ 0 s.len)
@@ -224,6 +225,7 @@ number-none p c Black e other = rw (cell-at p c e) refl
 number-none p c (Numbered n) e other = absurd (other n refl)
 
 -- What is counted of the cells of count houses.
+
 -- what was counted of a house, but for the rest of its cells. These are in the board
 pub record IsTallyBefore (K : Candidates) (cells : ℕ) (house : CountHouse) (rest : List ℕ) (t : Tally) : Type 0 where
   pub must_is : t.must + count_by (λ c. not (K c 0)) rest ≡ count_by (λ c. not (K c 0)) house.places

@@ -1,15 +1,16 @@
 -- Houses of a kind, visited in any order.
 use Rattle.fields_core.proofs.Common.{AllByRecursion, AreDistinct, AreIdle, ArePlanesAlive, AreVisited, Bool, Candidates, CountHouse, IsHouse, IsInside, IsLeast, Layers, List, [], after_house, after_houses, and-true, and_from, and_parts, ap, arith, cases_Bool, cells_of, common_steps, count_by, distinct-from, eq-eqb, eqb, eqb-true, false, false_from_ne_true, false≢true, fun_ext, has, has_place, houses_below, inl, inr, list_any, lt-ltb, ltb, ltb-false, ltb-true, not, not-true, or_cases, or_left, or_parts, or_right, refl, sym, true, true≢false, ℕ, ◌&&◌, ◌<◌, ◌||◌, ◌∙◌, ◌∷◌, ◌≡◌, ◌≢◌, ◌≤◌, ◌⊎◌}
-use Rattle.fields_core.proofs.VisitLemmas.{IsFull, IsOneAtMost, after-inside, sweep-first, sweep-more, visits-met, visits-two, zeros_of}
+use Rattle.fields_core.proofs.VisitLemmas.{IsBinaryAlive, IsOneAtMost, after-inside, sweep-first, sweep-more, visits-met, visits-two, zeros_of}
 unfoldable use Rattle.fields_core.proofs.VisitLemmas.{is_met, without_met}
 use Rattle.fields_core.proofs.PlaceLists.{any-here, any-some, count-cons, num, some-counted}
-use Rattle.fields_core.proofs.IdleLemmas.{ArePassed, AreQuiet, Keeps, idle-first, idle-one, list-kept, list-settled, passed-next, rest-off, rest-on}
+use Rattle.fields_core.proofs.IdleLemmas.{AreLinesPassed, AreQuiet, KeepsIdle, idle-first, idle-one, list-kept, list-settled, passed-next, rest-off, rest-on}
 use Rattle.fields_core.proofs.PartLemmas.{value-in}
 use Rattle.fields_core.proofs.LightRunLines.{each-more}
 use Rattle.fields_core.proofs.AtLeastLemmas.{IsAll, all-keeps}
 use Rattle.fields_core.proofs.HouseLemmas.{all-houses}
 
 -- Houses of one at most, visited in any order.
+
 -- a house of one at most
 pub record IsSingle (cells : ℕ) (house : CountHouse) : Type 0 where
   pub is : IsHouse cells house
@@ -17,8 +18,8 @@ pub record IsSingle (cells : ℕ) (house : CountHouse) : Type 0 where
   pub most_is : house.most ≡ 1
 
 -- the same houses, in whatever order
-abbrev pub AreSame : List CountHouse → List CountHouse → Type 0
-AreSame some all = (test : CountHouse → Bool) → list_any test some ≡ list_any test all
+abbrev pub AreSameHouses : List CountHouse → List CountHouse → Type 0
+AreSameHouses some all = (test : CountHouse → Bool) → list_any test some ≡ list_any test all
 
 -- ---- two cells without 0
 -- of different places two pass, where more than one does
@@ -95,11 +96,11 @@ few-of cells K (house ∷ houses) (is, each) none =
 -- ---- visits in another order
 module _ (some all : List CountHouse) (from to : Layers) (fills : Bool) (alive : ArePlanesAlive from)
     (each_some : AllByRecursion (IsSingle (cells_of from)) some) (each_all : AllByRecursion (IsSingle (cells_of from)) all)
-    (same : AreSame some all) (visited : AreVisited some from to fills) where
+    (same : AreSameHouses some all) (visited : AreVisited some from to fills) where
   abbrev cells : ℕ
   cells = cells_of from
 
-  full : IsFull cells (has from)
+  full : IsBinaryAlive cells (has from)
   full = record { low = value-in from; some = alive }
 
   two : (houses : List CountHouse) → AllByRecursion (IsSingle cells) houses → (d e v : ℕ) → d ≢ e
@@ -165,7 +166,7 @@ module _ (some all : List CountHouse) (from to : Layers) (fills : Bool) (alive :
 abbrev pub AreZerosKept : (ℕ → Bool) → Candidates → Candidates → Type 0
 AreZerosKept has_it K L = (c : ℕ) → has_it c ≡ true → L c 0 ≡ K c 0
 
-module _ (cells : ℕ) (house : CountHouse) (K L : Candidates) (is : IsSingle cells house) (full_K : IsFull cells K) (full_L : IsFull cells L)
+module _ (cells : ℕ) (house : CountHouse) (K L : Candidates) (is : IsSingle cells house) (full_K : IsBinaryAlive cells K) (full_L : IsBinaryAlive cells L)
     (inside : IsInside L K) (zeros : AreZerosKept (has_place house.places) K L) (idle : after_house house K ≡ K) where
   -- not two of its cells must be ones
   not-two : {d e : ℕ} → d ≢ e → has_place house.places d ≡ true → has_place house.places e ≡ true → K d 0 ≡ false → K e 0 ≡ false → ⊥
@@ -179,7 +180,7 @@ module _ (cells : ℕ) (house : CountHouse) (K L : Candidates) (is : IsSingle ce
   none-many : (M : Candidates) → ((c : ℕ) → has_place house.places c ≡ true → M c 0 ≡ K c 0) → list_any (many_in M) (house ∷ []) ≡ false
   none-many M same = grind (arith, common_steps, false_from_ne_true, or_cases, count-pair, distinct-from, ltb-true, not-two, not-true)
 
-  left-by : {M : Candidates} → IsFull cells M → ((c : ℕ) → has_place house.places c ≡ true → M c 0 ≡ K c 0)
+  left-by : {M : Candidates} → IsBinaryAlive cells M → ((c : ℕ) → has_place house.places c ≡ true → M c 0 ≡ K c 0)
       → after_house house M ≡ without_met (house ∷ []) M
   unfolding after_houses
   left-by {M} full same = visits-met (house ∷ []) M full (few-of cells M (house ∷ []) (is, tt) (none-many M same))
@@ -206,7 +207,7 @@ module _ (cells : ℕ) (house : CountHouse) (K L : Candidates) (is : IsSingle ce
 
 -- houses of one at most whose visits take nothing: nor do they where only ones of their cells were lost since
 pub singles-kept : (cells : ℕ) (houses : List CountHouse) (K L : Candidates) → AllByRecursion (IsSingle cells) houses
-    → IsFull cells K → IsFull cells L → IsInside L K
+    → IsBinaryAlive cells K → IsBinaryAlive cells L → IsInside L K
     → AreZerosKept (λ c. list_any (λ house. has_place house.places c) houses) K L → after_houses houses K ≡ K → after_houses houses L ≡ L
 unfolding after_houses
 singles-kept cells [] K L each full_K full_L inside zeros idle = refl
@@ -217,8 +218,8 @@ singles-kept cells (house ∷ houses) K L (is, each) full_K full_L inside zeros 
 
 -- ---- visits of houses of one at most that leave each cell a value
 -- no cell loses 0
-pub singles-zeros : {cells : ℕ} (houses : List CountHouse) {K : Candidates} → AllByRecursion (IsSingle cells) houses → IsFull cells K
-    → IsFull cells (after_houses houses K) → (c : ℕ) → after_houses houses K c 0 ≡ K c 0
+pub singles-zeros : {cells : ℕ} (houses : List CountHouse) {K : Candidates} → AllByRecursion (IsSingle cells) houses → IsBinaryAlive cells K
+    → IsBinaryAlive cells (after_houses houses K) → (c : ℕ) → after_houses houses K c 0 ≡ K c 0
 unfolding without_met
 singles-zeros {cells} houses {K} each full after c = elim (cases_Bool (list_any (many_in K) houses)) [
   | inr none ↦ ap (λ (M : Candidates). M c 0) (visits-met houses K full (few-of cells K houses each none)) ∙ and-true (K c 0)
@@ -233,7 +234,7 @@ singles-zeros {cells} houses {K} each full after c = elim (cases_Bool (list_any 
 ]
 
 -- so others stay idle
-pub single-keeps : (cells : ℕ) (visited house : CountHouse) → IsSingle cells visited → IsSingle cells house → Keeps cells visited house
+pub single-keeps : (cells : ℕ) (visited house : CountHouse) → IsSingle cells visited → IsSingle cells house → KeepsIdle cells visited house
 unfolding after_houses
 single-keeps cells visited house is other K full still idle = single-kept cells house K (after_house visited K) other full still
     (after-inside visited K) (λ c _. singles-zeros (visited ∷ []) (is, tt) full still c) idle
@@ -245,7 +246,7 @@ singles-quiet cells = record { different = λ house is. is.is.different; keeps =
 pub alls-quiet : (cells : ℕ) → AreQuiet cells (IsAll cells)
 alls-quiet cells = record { different = λ house is. is.is.different; keeps = all-keeps cells }
 
-alive-full : {cells : ℕ} (s : Layers) → cells_of s ≡ cells → ArePlanesAlive s → IsFull cells (has s)
+alive-full : {cells : ℕ} (s : Layers) → cells_of s ≡ cells → ArePlanesAlive s → IsBinaryAlive cells (has s)
 alive-full s size alive = record { low = value-in s; some = λ c lt. alive c (rw size lt) }
 
 module _ {cells : ℕ} {Is : CountHouse → Type 0} (quiet : AreQuiet cells Is) (f : ℕ → List CountHouse) {n : ℕ}
@@ -255,10 +256,10 @@ module _ {cells : ℕ} {Is : CountHouse → Type 0} (quiet : AreQuiet cells Is) 
     those : AllByRecursion Is (houses_below f m)
     those = all-houses Is f m (λ k lt. each k (omega arith))
 
-    before : IsFull cells (has from)
+    before : IsBinaryAlive cells (has from)
     before = alive-full from size alive
 
-    after : IsFull cells (after_houses (houses_below f m) (has from))
+    after : IsBinaryAlive cells (after_houses (houses_below f m) (has from))
     after = rw (visited.left refl) at (alive-full {cells = cells} to (rw (visited.further.same_size) size) visited.alive)
 
     pub quiet-stays : (others : List CountHouse) → AllByRecursion Is others → AreIdle others (has from) → AreIdle others (has to)
@@ -276,8 +277,8 @@ quiet-one quiet houses each size alive visited others each_other idle =
 
 -- the next of the lines that are left
 pub quiet-next : {cells : ℕ} {Is : CountHouse → Type 0} → AreQuiet cells Is → {f : ℕ → List CountHouse} {n : ℕ} → ((k : ℕ) → k < n → AllByRecursion Is (f k))
-    → {left : ℕ → Bool} {from to next : Layers} {room line : ℕ} {fills : Bool} → cells_of from ≡ cells → ArePassed f n left from to → IsLeast left room line
-    → AreVisited (f line) to next fills → fills ≡ true → (rest : ℕ → Bool) → ((k : ℕ) → rest k ≡ (left k && not (eqb k line))) → ArePassed f n rest from next
+    → {left : ℕ → Bool} {from to next : Layers} {room line : ℕ} {fills : Bool} → cells_of from ≡ cells → AreLinesPassed f n left from to → IsLeast left room line
+    → AreVisited (f line) to next fills → fills ≡ true → (rest : ℕ → Bool) → ((k : ℕ) → rest k ≡ (left k && not (eqb k line))) → AreLinesPassed f n rest from next
 quiet-next quiet {f} each {line = line} size passed least visited fill rest without = passed-next f passed least visited fill rest
     (λ k on. let w = rest-on least without k on in (w.0, passed.inside k w.1))
     (λ k high lt off. quiet-one quiet (f line) (each line (passed.inside line least.has)) (rw (passed.visited.further.same_size) size) passed.visited.alive

@@ -1,12 +1,13 @@
 -- Houses that are idle: one by one, in parts of a list, and by lines.
 use Rattle.fields_core.proofs.Common.{AllByRecursion, AreDifferent, AreIdle, ArePlanesAlive, AreVisited, Bool, Candidates, CountHouse, IsClosed, IsInside, IsLeast, Layers, List, [], after_house, after_houses, and_parts, any_below, any_below-here, any_below-none, any_below-some, ap, append_assoc, arith, by_fillings-monotone, by_fillings-settled, cases_Bool, cases_eq, cases_lt, common_steps, count_below, count_below-lt, count_house_of, count_puzzle, counts_between, eq-eqb, eqb, false, false_from_ne_true, fun_ext, further-none, get_or-append_seam, has, has_place, houses_below, inl, inr, le-ltb, length, length-append, list_any, list_any-append, lt-ltb, ltb, ne_eqb, no_count_house, not, not-true, or_cases, refl, strikes_at-inside, strikes_of, suc, sym, true, true≢false, zero, ℕ, ◌&&◌, ◌++◌, ◌+◌, ◌-◌, ◌<◌, ◌||◌, ◌∙◌, ◌∷◌, ◌≡◌, ◌≤◌, ◌⊎◌}
-use Rattle.fields_core.proofs.VisitLemmas.{IsFull, after-inside, below-rest, others-stay, sweep-broken, sweep-first, sweep-more, visited-left, visits-append, visits-inside}
+use Rattle.fields_core.proofs.VisitLemmas.{IsBinaryAlive, after-inside, below-rest, others-stay, sweep-broken, sweep-first, sweep-more, visited-left, visits-append, visits-inside}
 use Rattle.fields_core.proofs.HouseLemmas.{below-more}
 use Rattle.fields_core.proofs.CellLemmas.{first-off}
 
 -- Houses whose visits take nothing, which stay idle while others of their kind are visited, and boards that have changed far from them.
+
 -- a board between two that have a value in each cell
-pub full-between : {cells : ℕ} {K L M : Candidates} → IsFull cells K → IsFull cells M → IsInside L K → IsInside M L → IsFull cells L
+pub full-between : {cells : ℕ} {K L M : Candidates} → IsBinaryAlive cells K → IsBinaryAlive cells M → IsInside L K → IsInside M L → IsBinaryAlive cells L
 full-between {K} {L} {M} first last inside within = grind (arith, common_steps)
 
 -- ---- one house
@@ -96,25 +97,25 @@ house-settled house K different = fun_ext λ c. fun_ext λ v. elim (cases_Bool (
 ]
 
 -- a visit of the first that leaves each cell a value leaves the second idle, if it was
-abbrev pub Keeps : ℕ → CountHouse → CountHouse → Type 0
-Keeps cells visited house = (K : Candidates) → IsFull cells K → IsFull cells (after_house visited K)
+abbrev pub KeepsIdle : ℕ → CountHouse → CountHouse → Type 0
+KeepsIdle cells visited house = (K : Candidates) → IsBinaryAlive cells K → IsBinaryAlive cells (after_house visited K)
     → after_house house K ≡ K → after_house house (after_house visited K) ≡ after_house visited K
 
-pub keeps-itself : (cells : ℕ) (house : CountHouse) → Keeps cells house house
+pub keeps-itself : (cells : ℕ) (house : CountHouse) → KeepsIdle cells house house
 keeps-itself cells house K full still idle = ap (after_house house) idle
 
 pub keeps-apart : (cells : ℕ) (visited house : CountHouse) → ((c : ℕ) → has_place visited.places c ≡ true → has_place house.places c ≡ false)
-    → Keeps cells visited house
+    → KeepsIdle cells visited house
 keeps-apart cells visited house apart K full still idle = grind (arith, common_steps, house-far, after-inside, cases_Bool, others-stay)
 
 -- ---- lists of houses of a kind, each of which keeps each
 pub record AreQuiet (cells : ℕ) (Is : CountHouse → Type 0) : Type 0 where
   pub different : (house : CountHouse) → Is house → AreDifferent house.places
-  pub keeps : (visited house : CountHouse) → Is visited → Is house → Keeps cells visited house
+  pub keeps : (visited house : CountHouse) → Is visited → Is house → KeepsIdle cells visited house
 
 module _ {cells : ℕ} {Is : CountHouse → Type 0} (quiet : AreQuiet cells Is) where
-  one-kept : (house : CountHouse) (visited : List CountHouse) (K : Candidates) → Is house → AllByRecursion Is visited → IsFull cells K
-      → IsFull cells (after_houses visited K) → after_house house K ≡ K → after_house house (after_houses visited K) ≡ after_houses visited K
+  one-kept : (house : CountHouse) (visited : List CountHouse) (K : Candidates) → Is house → AllByRecursion Is visited → IsBinaryAlive cells K
+      → IsBinaryAlive cells (after_houses visited K) → after_house house K ≡ K → after_house house (after_houses visited K) ≡ after_houses visited K
   unfolding after_houses
   one-kept house [] K is each full still idle = idle
   one-kept house (first ∷ visited) K is (one, each) full still idle =
@@ -122,15 +123,15 @@ module _ {cells : ℕ} {Is : CountHouse → Type 0} (quiet : AreQuiet cells Is) 
       one-kept house visited (after_house first K) is each between still (quiet.keeps first house one is K full between idle)
 
   -- visits leave houses idle that were
-  pub list-kept : (houses visited : List CountHouse) (K : Candidates) → AllByRecursion Is houses → AllByRecursion Is visited → IsFull cells K
-      → IsFull cells (after_houses visited K) → AreIdle houses K → AreIdle houses (after_houses visited K)
+  pub list-kept : (houses visited : List CountHouse) (K : Candidates) → AllByRecursion Is houses → AllByRecursion Is visited → IsBinaryAlive cells K
+      → IsBinaryAlive cells (after_houses visited K) → AreIdle houses K → AreIdle houses (after_houses visited K)
   unfolding after_houses
   list-kept [] visited K each all full still idle = refl
   list-kept (house ∷ houses) visited K (is, each) all full still idle = grind (arith, common_steps, one-kept, idle-first, idle-rest, list-kept houses visited K each all full still (idle-rest house houses K idle))
 
   -- and those that were visited
-  pub list-settled : (houses : List CountHouse) (K : Candidates) → AllByRecursion Is houses → IsFull cells K
-      → IsFull cells (after_houses houses K) → AreIdle houses (after_houses houses K)
+  pub list-settled : (houses : List CountHouse) (K : Candidates) → AllByRecursion Is houses → IsBinaryAlive cells K
+      → IsBinaryAlive cells (after_houses houses K) → AreIdle houses (after_houses houses K)
   unfolding after_houses
   list-settled [] K each full still = refl
   list-settled (house ∷ houses) K (is, each) full still =
@@ -139,6 +140,7 @@ module _ {cells : ℕ} {Is : CountHouse → Type 0} (quiet : AreQuiet cells Is) 
       (list-settled houses (after_house house K) each between still)
 
 -- Houses that stand one after another among others. Of a closed board all are idle.
+
 -- ---- a part of a list
 pub record IsPartOf (part all : List CountHouse) : Type 0 where
   pub front : List CountHouse
@@ -212,6 +214,7 @@ module _ (cells : ℕ) (blocked : ℕ → Bool) (houses : List CountHouse) (is_s
   closed-idle {part} within = part-idle within.front part within.back within.is
 
 -- Visits of the houses of some lines, one after another: those that are left of a word.
+
 -- ---- how many places there are from the lowest one of a word on
 abbrev pub places_on : (ℕ → Bool) → ℕ → ℕ
 places_on left room = count_below (λ k. any_below left (suc k)) room
@@ -226,7 +229,7 @@ fewer-on {left} {rest} {room} {least} is on =
     (any_below-here left (suc least) least (omega arith) is.has)
 
 -- ---- the houses of the lines so far are visited, and those of the lines behind them that are not left are idle
-pub record ArePassed (f : ℕ → List CountHouse) (n : ℕ) (left : ℕ → Bool) (from to : Layers) : Type 0 where
+pub record AreLinesPassed (f : ℕ → List CountHouse) (n : ℕ) (left : ℕ → Bool) (from to : Layers) : Type 0 where
   pub line : ℕ
   pub line_in : line ≤ n
   pub behind : (k : ℕ) → left k ≡ true → line ≤ k
@@ -235,16 +238,16 @@ pub record ArePassed (f : ℕ → List CountHouse) (n : ℕ) (left : ℕ → Boo
   pub idle : (k : ℕ) → line ≤ k → k < n → left k ≡ false → AreIdle (f k) (has to)
 
 pub passed-first : (f : ℕ → List CountHouse) {n : ℕ} {left : ℕ → Bool} {from : Layers} → ArePlanesAlive from → ((k : ℕ) → left k ≡ true → k < n)
-    → ((k : ℕ) → k < n → left k ≡ false → AreIdle (f k) (has from)) → ArePassed f n left from from
+    → ((k : ℕ) → k < n → left k ≡ false → AreIdle (f k) (has from)) → AreLinesPassed f n left from from
 passed-first f alive inside idle = grind (arith, common_steps, sweep-first)
 
 module _ (f : ℕ → List CountHouse) {n : ℕ} {left : ℕ → Bool} {from to : Layers} where
   -- none is left
-  pub passed-all : {room : ℕ} → ArePassed f n left from to → n ≤ room → any_below left room ≡ false → AreVisited (houses_below f n) from to true
+  pub passed-all : {room : ℕ} → AreLinesPassed f n left from to → n ≤ room → any_below left room ≡ false → AreVisited (houses_below f n) from to true
   passed-all {room} passed low none =
       visited-skip f passed.line_in passed.visited (λ k at lt. passed.idle k at lt (any_below-none left room none k (omega (arith, lt, low))))
 
-  module _ {next : Layers} {room line : ℕ} {fills : Bool} (passed : ArePassed f n left from to) (least : IsLeast left room line) (visited : AreVisited (f line) to next fills) where
+  module _ {next : Layers} {room line : ℕ} {fills : Bool} (passed : AreLinesPassed f n left from to) (least : IsLeast left room line) (visited : AreVisited (f line) to next fills) where
     below : AreVisited (houses_below f line) from to true
     below = grind (arith, common_steps, visited-skip)
 
@@ -254,7 +257,7 @@ module _ (f : ℕ → List CountHouse) {n : ℕ} {left : ℕ → Bool} {from to 
 
     -- or none, and lines behind it are left
     pub passed-next : fills ≡ true → (rest : ℕ → Bool) → ((k : ℕ) → rest k ≡ true → (line < k) × (k < n))
-        → ((k : ℕ) → line < k → k < n → rest k ≡ false → AreIdle (f k) (has next)) → ArePassed f n rest from next
+        → ((k : ℕ) → line < k → k < n → rest k ≡ false → AreIdle (f k) (has next)) → AreLinesPassed f n rest from next
     passed-next fill rest on idle = record {
       line = line + 1;
       line_in = omega (arith, passed.inside line least.has);

@@ -9,10 +9,11 @@ use Rattle.fields_core.proofs.HouseLemmas.{named-cells, named-long, named-told}
 use Rattle.fields_core.proofs.VisitLemmas.{IsAmong, among-back, among-below, among-front, among-met, among-one}
 use Rattle.fields_core.proofs.PlaceLists.{any-some, count-filter, count-two, ones-bulbs, some-counted}
 use Rattle.fields_core.proofs.LightSeen.{seen-there}
-use Rattle.fields_core.proofs.LightRuleLemmas.{IsBoard, column-run-joined, in-column-run, in-row-run, light-board, row-run-joined}
+use Rattle.fields_core.proofs.LightRuleLemmas.{IsLightBoard, column-run-joined, in-column-run, in-row-run, light-board, row-run-joined}
 use Rattle.fields_core.proofs.LightRunOrder.{column-begin, row-begin}
 
 -- Houses of Light Up by what tells them. A place that tells a house lies in the grid.
+
 -- ---- a house is told
 pub told-if : (b : Bool) (house : CountHouse) → length (cond b (house ∷ []) []) ≡ 1 → b ≡ true
 told-if true house e = refl
@@ -51,6 +52,7 @@ pub column-of-place : (p : Light) (c : ℕ) → 0 < p.size.w → run_house p (c 
 column-of-place p c some = rw (← whole-cell p.size.w c) at (column-house-is p (c / p.size.w) (mod-lt c some))
 
 -- Numbers of Light Up that no grid meets, by the names of the houses.
+
 -- ---- a house that is told
 told-one : (b : Bool) (house : CountHouse) {other : CountHouse} → cond b (house ∷ []) [] ≡ other ∷ [] → (b ≡ true) × (house ≡ other)
 told-one true house e = (refl, ap (λ l. count_house_of l 0) e)
@@ -146,7 +148,7 @@ module _ (p : Light) (names : List (HouseName LightHouse)) (are : AreNamed (ligh
 
 -- A grid of Light Up that meets each house with a cell is a solution exactly if each number above 0 has a white cell beside it.
 module _ (p : Light) (g : List ℕ) (is : IsLight p) (grid : IsGrid (light_cells p) 2 g) (met : AreMet (light_counts p) g) where
-  board : IsBoard p
+  board : IsLightBoard p
   board = light-board is
 
   -- the house is met, if it has a cell

@@ -21,6 +21,7 @@ unfolding solves_lights
 lit-parts p g on = grind (arith, common_steps, and_parts)
 
 -- Which bulbs a cell sees: what a walk along its row and its column shows.
+
 -- the cells of a row and of a column, by column and by row
 pub row-of : (p : Light) (c d : ℕ) → 0 < p.size.w → joined_in_row p c d ≡ true
     → (x : ℕ) × (x < p.size.w) × (slice_index (row_places p.size (c / p.size.w)) x ≡ d)
@@ -46,6 +47,7 @@ pub some-column : (p : Light) {c : ℕ} → c < light_cells p → 0 < p.size.w
 some-column p lt = grind (arith, common_steps)
 
 -- The houses of Light Up are houses, and each solution meets them.
+
 -- ---- a house of the board that each solution meets
 pub record IsMet (cells : ℕ) (good : List ℕ → Bool) (house : CountHouse) : Type 0 where
   pub is_house : IsHouse cells house

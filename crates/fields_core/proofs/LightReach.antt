@@ -8,6 +8,7 @@ use Rattle.fields_core.proofs.LightHouseLaws.{clear-at, clear-from, column-parts
 use Rattle.fields_core.proofs.BesideLemmas.{row-in}
 
 -- The numbers of a row of Light Up: those that wait, by a word of its numbered cells.
+
 -- ---- numbers that have no house
 -- a cell without a number has no house
 bare : (p : Light) (c : ℕ) → is_numbered p c ≡ false → number_house p c ≡ []
@@ -30,6 +31,7 @@ numbers-are p = below-rows (number_house p) p.size.w p.size.h
     ∙ ap (houses_below (number_house p)) (let e : p.size.h * p.size.w ≡ p.size.w * p.size.h = omega arith in e)
 
 -- The rows of the white cells of Light Up that wait.
+
 -- ---- the highest place
 -- of the places the last is above none but those that are left
 pub record IsLast (places rest : ℕ → Bool) (room last : ℕ) : Type 0 where

@@ -1,5 +1,5 @@
 -- The rules of Light Up, as count houses and as the test of a grid.
-use Rattle.fields_core.proofs.Common.{AllByRecursion, AreDistinct, AreJoined, AreRight, Black, Bool, FailsLight, IsCounting, IsFromTo, IsGrid, IsKnown, IsLawful, IsLight, IsLightCell, IsLightFault, IsLightSolution, IsMade, Kind, Light, LightCell, LightFault, List, NoneFails, Numbered, Option, Sees, SeesBulb, White, [], all_below-at, all_below-from, and_from, and_parts, any_below-here, any_below-some, ap, arith, black_right, bulb, bulb_right, bulbs_beside, cases_eq, cases_lt, column_house, column_run, common_steps, count-lawful, count_by-le-length, distinct-append, distinct-filter, div-mul-add, div-mul-le_self, eq-eqb, eqb, eqb-true, filter, get_or, has_place, has_place-here, inl, inr, is_some, joined_in_column, joined_in_row, known_tests, le-div, length, length-append, light_cells, light_column, light_houses, light_row, light_rules, light_tests, lit_house, lit_right, max, min, mod-lt, mod-mul-add, mul-le-mul_right, ne_eqb, none_held, none_tells, not, not-false, not-true, number_house, number_is, number_right, one_at_least, one_at_most, or_cases, or_left, or_parts, or_right, place-append, place-back, place-filter, place-front, place-kept, refl, right_none, row_house, row_run, seen_from, sees, sees_bulb, slice_index, solves_lights, steps, suc, sym, true, true≢false, white, zero, ℕ, ◌%◌, ◌&&◌, ◌*◌, ◌++◌, ◌+◌, ◌/◌, ◌<◌, ◌||◌, ◌∙◌, ◌∷◌, ◌≡◌, ◌≤◌}
+use Rattle.fields_core.proofs.Common.{AllByRecursion, AreDistinct, AreJoined, AreRight, Black, Bool, FailsLight, IsCounting, IsFromTo, IsGrid, IsKnown, IsLawful, IsLight, IsLightCell, IsLightFault, IsLightSolution, IsKindMade, TestKind, Light, LightCell, LightFault, List, NoneFails, Numbered, Option, Sees, SeesBulb, White, [], all_below-at, all_below-from, and_from, and_parts, any_below-here, any_below-some, ap, arith, black_right, bulb, bulb_right, bulbs_beside, cases_eq, cases_lt, column_house, column_run, common_steps, count-lawful, count_by-le-length, distinct-append, distinct-filter, div-mul-add, div-mul-le_self, eq-eqb, eqb, eqb-true, filter, get_or, has_place, has_place-here, inl, inr, is_some, joined_in_column, joined_in_row, known_tests, le-div, length, length-append, light_cells, light_column, light_houses, light_row, light_rules, light_tests, lit_house, lit_right, max, min, mod-lt, mod-mul-add, mul-le-mul_right, ne_eqb, none_held, none_tells, not, not-false, not-true, number_house, number_is, number_right, one_at_least, one_at_most, or_cases, or_left, or_parts, or_right, place-append, place-back, place-filter, place-front, place-kept, refl, right_none, row_house, row_run, seen_from, sees, sees_bulb, slice_index, solves_lights, steps, suc, sym, true, true≢false, white, zero, ℕ, ◌%◌, ◌&&◌, ◌*◌, ◌++◌, ◌+◌, ◌/◌, ◌<◌, ◌||◌, ◌∙◌, ◌∷◌, ◌≡◌, ◌≤◌}
 use Rattle.fields_core.specs.LightHouses.{numbered}
 use Rattle.fields_core.proofs.LightHouseLaws.{IsMet, bulb-in, clear-at, clear-from, column-both, column-distinct, column-of, column-parts, column-white-end, lit-from, lit-parts, met-from, row-both, row-distinct, row-of, row-parts, row-self, row-white-end, some-column, white-in}
 use Rattle.fields_core.proofs.HouseLemmas.{all-append, all-at, all-houses, all-if, column-long, row-long}
@@ -8,8 +8,9 @@ use Rattle.fields_core.proofs.BesideLemmas.{steps-distinct, steps-few}
 use Rattle.fields_core.specs.declared.light_up.fault.LightFault.TheVariants as fault
 
 -- The count houses of Light Up keep to what every rule set of count houses keeps to.
+
 -- what is used of a puzzle
-pub record IsBoard (p : Light) : Type 0 where
+pub record IsLightBoard (p : Light) : Type 0 where
   pub some : 0 < p.size.w
   pub w_few : p.size.w ≤ 256
   pub h_few : p.size.h ≤ 256
@@ -42,7 +43,7 @@ no-sight p {g} grid good d e bd be joined = elim (cases_eq d e) [
 ]
 
 -- ---- the houses of numbers
-number-kind : {p : Light} {c : ℕ} → IsBoard p → c < light_cells p → AllByRecursion (IsMet (light_cells p) (solves_lights p)) (number_house p c)
+number-kind : {p : Light} {c : ℕ} → IsLightBoard p → c < light_cells p → AllByRecursion (IsMet (light_cells p) (solves_lights p)) (number_house p c)
 unfolding number_right
 number-kind {p} {c} board lt = by _ refl
   where
@@ -74,11 +75,11 @@ pub column-run-joined : (p : Light) (c d : ℕ) → has_place (column_run p c) d
 unfolding column_run
 column-run-joined p c d on = grind (arith, common_steps, place-filter)
 
-pub row-run-few : {p : Light} (c : ℕ) → IsBoard p → length (row_run p c) ≤ 256
+pub row-run-few : {p : Light} (c : ℕ) → IsLightBoard p → length (row_run p c) ≤ 256
 unfolding row_run
 row-run-few {p} c board = grind (arith, common_steps, filter-few, row-long)
 
-pub column-run-few : {p : Light} (c : ℕ) → IsBoard p → length (column_run p c) ≤ 256
+pub column-run-few : {p : Light} (c : ℕ) → IsLightBoard p → length (column_run p c) ≤ 256
 unfolding column_run
 column-run-few {p} c board = grind (arith, common_steps, filter-few, column-long)
 
@@ -86,7 +87,7 @@ row-run-distinct : (p : Light) (c : ℕ) → AreDistinct (row_run p c)
 unfolding row_run
 row-run-distinct p c = distinct-filter _ _ (row-distinct p.size _)
 
-pub column-run-distinct : {p : Light} (c : ℕ) → IsBoard p → AreDistinct (column_run p c)
+pub column-run-distinct : {p : Light} (c : ℕ) → IsLightBoard p → AreDistinct (column_run p c)
 unfolding column_run
 column-run-distinct {p} c board = distinct-filter _ _ (column-distinct p.size _ board.some)
 
@@ -97,12 +98,12 @@ run-kind : (p : Light) {run : List ℕ} → AreDistinct run → length run ≤ 2
 run-kind p {run} distinct few within joined = met-from within distinct (omega arith) (omega arith) (omega arith)
     (λ g grid good. (omega arith, count-one (bulb g) run distinct (λ d e md me bd be. no-sight p grid good d e bd be (joined d e md me))))
 
-pub row-kind : (p : Light) (c : ℕ) → IsBoard p → IsMet (light_cells p) (solves_lights p) (one_at_most (row_run p c))
+pub row-kind : (p : Light) (c : ℕ) → IsLightBoard p → IsMet (light_cells p) (solves_lights p) (one_at_most (row_run p c))
 row-kind p c board = run-kind p (row-run-distinct p c) (row-run-few c board)
     (λ d on. white-in p d board.long (row-white-end p c d board.some (row-run-joined p c d on)))
     (λ d e md me. or_left _ _ (row-both p c d e (row-run-joined p c d md) (row-run-joined p c e me)))
 
-pub column-kind : (p : Light) (c : ℕ) → IsBoard p → IsMet (light_cells p) (solves_lights p) (one_at_most (column_run p c))
+pub column-kind : (p : Light) (c : ℕ) → IsLightBoard p → IsMet (light_cells p) (solves_lights p) (one_at_most (column_run p c))
 column-kind p c board = run-kind p (column-run-distinct c board) (column-run-few c board)
     (λ d on. white-in p d board.long (column-white-end p c d board.some (column-run-joined p c d on)))
     (λ d e md me. or_right _ _ (column-both p c d e (column-run-joined p c d md) (column-run-joined p c e me)))
@@ -116,7 +117,7 @@ pub in-column-run : (p : Light) (c : ℕ) {d : ℕ} → 0 < p.size.w → d < lig
 unfolding column_run
 in-column-run p c pos lt on = grind (arith, common_steps, column-of, place-kept, has_place-here, column-long)
 
-lit-kind : {p : Light} {c : ℕ} → IsBoard p → c < light_cells p → white p c ≡ true → IsMet (light_cells p) (solves_lights p) (one_at_least (seen_from p c))
+lit-kind : {p : Light} {c : ℕ} → IsLightBoard p → c < light_cells p → white p c ≡ true → IsMet (light_cells p) (solves_lights p) (one_at_least (seen_from p c))
 unfolding seen_from lit_right sees_bulb sees
 lit-kind {p} {c} board lt on = met-from
     (λ d m. elim (place-append (row_run p c) others d m) [
@@ -168,7 +169,7 @@ lit-kind {p} {c} board lt on = met-from
       ]
     ]
 
-each-met : (p : Light) → IsBoard p → AllByRecursion (IsMet (light_cells p) (solves_lights p)) (light_houses p)
+each-met : (p : Light) → IsLightBoard p → AllByRecursion (IsMet (light_cells p) (solves_lights p)) (light_houses p)
 unfolding light_houses
 each-met p board =
     all-append _ _ _ (all-houses _ (number_house p) _ (λ c lt. number-kind board lt))
@@ -182,7 +183,7 @@ number-few [] c n all e = cc
 number-few (cell ∷ cells) zero n all e = rw e at all.0
 number-few (cell ∷ cells) (suc c) n all e = number-few cells c n all.1 e
 
-pub light-board : {p : Light} → IsLight p → IsBoard p
+pub light-board : {p : Light} → IsLight p → IsLightBoard p
 light-board is = grind (arith, common_steps, number-few)
 
 pub light-counting : {p : Light} → IsLight p → IsCounting (light_cells p) (λ c. not (white p c)) (light_houses p) (solves_lights p)
@@ -203,6 +204,7 @@ pub light-lawful : {p : Light} → IsLight p → IsLawful (light_rules p)
 light-lawful is = count-lawful _ _ _ _ (light-counting is)
 
 -- In Light Up the test of a solution is the rule.
+
 -- ---- who sees whom
 div-under : {a b w : ℕ} → 0 < w → a ≤ b → a / w ≤ b / w
 div-under {a} {b} {w} pos le = le-div (a / w) b w pos (omega (arith, div-mul-le_self a w))
@@ -297,39 +299,39 @@ rule-from-test p g grid on =
 
 -- ---- each test, as it is computed
 module _ (p : Light) (g : List ℕ) where
-  abbrev pub black : Kind LightFault
+  abbrev pub black : TestKind LightFault
   black = record { test = fault.Black; count = light_cells p; right = black_right p g }
 
-  abbrev pub number : Kind LightFault
+  abbrev pub number : TestKind LightFault
   number = record { test = fault.Number; count = light_cells p; right = number_right p g }
 
-  abbrev pub seen : Kind LightFault
+  abbrev pub seen : TestKind LightFault
   seen = record { test = fault.Seen; count = light_cells p; right = bulb_right p g }
 
-  abbrev pub dark : Kind LightFault
+  abbrev pub dark : TestKind LightFault
   dark = record { test = fault.Dark; count = light_cells p; right = lit_right p g }
 
-  abbrev pub kinds : List (Kind LightFault)
+  abbrev pub kinds : List (TestKind LightFault)
   kinds = black ∷ number ∷ seen ∷ dark ∷ []
 
   module _ (grid : IsGrid (light_cells p) 2 g) where
-    black-made : IsMade (FailsLight p g) black
+    black-made : IsKindMade (FailsLight p g) black
     unfolding black_right
     black-made = grind (arith, common_steps, or_parts, cases_eq, eq-eqb, or_cases)
 
-    number-made : IsMade (FailsLight p g) number
+    number-made : IsKindMade (FailsLight p g) number
     unfolding number_right
     number-made = grind (arith, common_steps, number-rule, eq-eqb)
 
-    seen-made : IsMade (FailsLight p g) seen
+    seen-made : IsKindMade (FailsLight p g) seen
     unfolding bulb_right
     seen-made = grind (arith, common_steps, and_parts, not-false, bulb-rule, some-column, not-alone, rule-bulb)
 
-    dark-made : IsMade (FailsLight p g) dark
+    dark-made : IsKindMade (FailsLight p g) dark
     unfolding lit_right
     dark-made = grind (arith, common_steps, or_parts, not-false, rule-bulb, some-column, or_cases, not-true, bulb-rule)
 
-    pub light-made : AllByRecursion (IsMade (FailsLight p g)) kinds
+    pub light-made : AllByRecursion (IsKindMade (FailsLight p g)) kinds
     light-made = (black-made, (number-made, (seen-made, (dark-made, tt))))
 
     none-right : AllByRecursion (AreRight (FailsLight p g)) kinds → solves_lights p g ≡ true

@@ -1,6 +1,6 @@
 -- The runs of one line, visited at once.
 use Rattle.fields_core.proofs.Common.{AllByRecursion, AreAround, ArePlanesAlive, AreRunsOf, AreVisited, Bool, CountHouse, Extent, IsClash, IsFurther, IsHouse, IsLeast, IsRunOf, Layers, Line, List, [], and-false, and-true, and_from, and_parts, any_below, any_below-here, any_below-none, any_below-some, ap, arith, at_line, cases_Bool, cases_eq, cases_lt, common_steps, covers, crosses, distinct-from, eq-eqb, eqb, false, false_from_ne_true, false≢true, fun_ext, has, has_bit, has_place, inl, inr, list_any, lt-ltb, ltb, ltb-true, ne_eqb, not, not-true, or_cases, or_left, or_right, refl, sym, true, true≢false, without_taking, ℕ, ◌%◌, ◌&&◌, ◌*◌, ◌/◌, ◌<◌, ◌||◌, ◌∙◌, ◌∷◌, ◌≡◌, ◌≢◌, ◌≤◌, ◌⊎◌}
-use Rattle.fields_core.proofs.VisitLemmas.{IsFull, IsOneAtMost, visited-dies, visited-left, visits-met, visits-two, zeros_of}
+use Rattle.fields_core.proofs.VisitLemmas.{IsBinaryAlive, IsOneAtMost, visited-dies, visited-left, visits-met, visits-two, zeros_of}
 unfoldable use Rattle.fields_core.proofs.VisitLemmas.{is_met, without_met}
 use Rattle.fields_core.proofs.PlaceLists.{any-here, any-some, count-one}
 use Rattle.fields_core.proofs.CellLemmas.{same-truth}
@@ -176,7 +176,7 @@ module _ (size : Extent) (line : Line) (n room : ℕ) (cell : ℕ → ℕ) (join
   runs-met {around} taken {to} is taken_is left further =
       visited-left (met ∙ sym (visits-met houses (has from) full each)) (λ c lt. living c (alive c (rw (further.same_size) at lt))) further
     where
-      full : IsFull cells (has from)
+      full : IsBinaryAlive cells (has from)
       full = record { low = value-in from; some = λ c lt. alive c (rw same_size lt) }
 
       -- two that must be ones are in no house

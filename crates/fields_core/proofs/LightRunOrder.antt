@@ -1,14 +1,15 @@
 -- The houses of the runs of Light Up, line by line.
 use Rattle.fields_core.proofs.Common.{AllByRecursion, AreIdle, ArePlanesAlive, AreRunsOf, AreVisited, Bool, Candidates, Column, CountHouse, IsColumnRun, IsInside, IsLight, IsRowRun, IsRunOf, Layers, Light, Line, List, Row, ℕ, and_from, and_parts, any_below, any_below-here, any_below-some, ap, arith, begins_column_run, begins_row_run, cases_Bool, column_house, column_run, column_runs_of_column, crosses, div-lt_iff_lt-mul, div-mul-add, eq-eqb, eqb-true, false, has, has_bit, has_place, houses_below, inl, inr, joined_in_column, joined_in_row, light_cells, list_any, lt-ltb, ltb, mod-lt, or_left, place-column, place-in, refl, row_house, row_run, row_runs_of_row, slice_index, subst, suc, sym, true, white, zero, ◌%◌, ◌&&◌, ◌*◌, ◌+◌, ◌/◌, ◌<◌, ◌∙◌, ◌≡◌}
-use Rattle.fields_core.proofs.LightRuleLemmas.{IsBoard, column-kind, column-run-joined, in-column-run, in-row-run, light-board, row-kind, row-run-joined}
+use Rattle.fields_core.proofs.LightRuleLemmas.{IsLightBoard, column-kind, column-run-joined, in-column-run, in-row-run, light-board, row-kind, row-run-joined}
 use Rattle.fields_core.proofs.LightHouseLaws.{clear-at, column-both, column-parts, column-run-on, column-self, column-white-end, mul-inj, row-both, row-parts, row-run-on, row-self, white-in}
 use Rattle.fields_core.proofs.HouseLemmas.{all-houses, all-if, any-houses}
-use Rattle.fields_core.proofs.HouseOrder.{AreSame, IsSingle, singles-kept, visited-any-order}
-use Rattle.fields_core.proofs.VisitLemmas.{IsFull, below-rows}
+use Rattle.fields_core.proofs.HouseOrder.{AreSameHouses, IsSingle, singles-kept, visited-any-order}
+use Rattle.fields_core.proofs.VisitLemmas.{IsBinaryAlive, below-rows}
 use Rattle.fields_core.proofs.CellLemmas.{same-truth}
 use Rattle.fields_core.proofs.LightRunLines.{each-more, some-of}
 
 -- The houses of the runs of a row and of a column of Light Up, as runs of a line.
+
 -- ---- where a run begins
 run-begin : (begins passes : ℕ → Bool) (run : ℕ → List ℕ)
     → ((d : ℕ) → begins d ≡ false → passes d ≡ true → (c : ℕ) × (c < d) × (passes c ≡ true) × (run c ≡ run d))
@@ -45,7 +46,7 @@ module _ (p : Light) (y : ℕ) (lawful : IsLight p) where
   abbrev w : ℕ
   w = p.size.w
 
-  board : IsBoard p
+  board : IsLightBoard p
   board = light-board lawful
 
   in-line : (c : ℕ) → c / w ≡ y → y * w + c % w ≡ c
@@ -91,7 +92,7 @@ module _ (p : Light) (x : ℕ) (lawful : IsLight p) (low : x < p.size.w) where
   abbrev v : ℕ
   v = p.size.w
 
-  field : IsBoard p
+  field : IsLightBoard p
   field = light-board lawful
 
   in-column : (c : ℕ) → c % v ≡ x → c / v * v + x ≡ c
@@ -163,13 +164,14 @@ column-words p {x} words e f h low are j k lt =
     rw (e, f, h, place) (are (j * p.size.w + x) cell k ∙ rw (place-column p.size.w j x low) refl)
 
 -- The runs of Light Up line by line are all its runs.
+
 -- ---- row by row
 pub row-runs-are : (p : Light) → houses_below (row_runs_of_row p) p.size.h ≡ houses_below (row_house p) (light_cells p)
 row-runs-are p = below-rows (row_house p) p.size.w p.size.h
     ∙ ap (houses_below (row_house p)) (let e : p.size.h * p.size.w ≡ p.size.w * p.size.h = omega arith in e)
 
 -- ---- column by column
-columns-same : (p : Light) → 0 < p.size.w → AreSame (houses_below (column_runs_of_column p) p.size.w) (houses_below (column_house p) (light_cells p))
+columns-same : (p : Light) → 0 < p.size.w → AreSameHouses (houses_below (column_runs_of_column p) p.size.w) (houses_below (column_house p) (light_cells p))
 columns-same p pos test =
     any-houses test (column_runs_of_column p) p.size.w
     ∙ same-truth _ _ to back
@@ -194,7 +196,7 @@ columns-same p pos test =
         (any-houses test (λ y. column_house p (y * p.size.w + c.0 % p.size.w)) p.size.h
         ∙ any_below-here (λ y. list_any test (column_house p (y * p.size.w + c.0 % p.size.w))) p.size.h (c.0 / p.size.w) low (rw whole c.2))
 
-column-single : {p : Light} (c : ℕ) → IsBoard p → AllByRecursion (IsSingle (light_cells p)) (column_house p c)
+column-single : {p : Light} (c : ℕ) → IsLightBoard p → AllByRecursion (IsSingle (light_cells p)) (column_house p c)
 column-single {p} c board = all-if _ (λ _. record { is = (column-kind p c board).is_house; least_is = refl; most_is = refl })
 
 -- visits of the runs of each column are visits of all runs of columns
@@ -216,7 +218,7 @@ module _ (p : Light) {line : Line} {n : ℕ} {cell : ℕ → ℕ} {joined : ℕ 
       (λ house of. record { is = of.is; least_is = of.least_is; most_is = of.most_is }) are.each
 
   -- what takes nothing still takes nothing, where no cell of the line has lost 0
-  pub line-kept : {K L : Candidates} → IsFull (light_cells p) K → IsFull (light_cells p) L → IsInside L K
+  pub line-kept : {K L : Candidates} → IsBinaryAlive (light_cells p) K → IsBinaryAlive (light_cells p) L → IsInside L K
       → ((k : ℕ) → k < n → L (cell k) 0 ≡ K (cell k) 0) → AreIdle houses K → AreIdle houses L
   line-kept {K} {L} full still inside zeros = singles-kept (light_cells p) houses K L line-single full still inside (λ c on.
       let w = some-of (IsRunOf (light_cells p) n cell joined) (λ house. has_place house.places c) houses are.each on in

@@ -44,14 +44,14 @@ run-whole test len at end bits is told i from up k = told k ∙ same-truth _ _
 
 -- ---- the numbers that do not pass, one after another
 -- those from `at` on are left, and the one before `at` is one
-pub record AreLeft (test : ℕ → Bool) (len at left : ℕ) : Type 0 where
+pub record AreNumbersLeft (test : ℕ → Bool) (len at left : ℕ) : Type 0 where
   pub before : (j : ℕ) → j + 1 ≡ at → test j ≡ false
   pub rest : (k : ℕ) → has_bit left k ≡ ((ltb k len && not (ltb k at)) && not (test k))
 
-pub left-all : (test : ℕ → Bool) (len left : ℕ) → ((k : ℕ) → has_bit left k ≡ (ltb k len && not (test k))) → AreLeft test len 0 left
+pub left-all : (test : ℕ → Bool) (len left : ℕ) → ((k : ℕ) → has_bit left k ≡ (ltb k len && not (test k))) → AreNumbersLeft test len 0 left
 left-all test len left told = grind (arith, common_steps, le-ltb, and-true)
 
-module _ {test : ℕ → Bool} {len at left : ℕ} (are : AreLeft test len at left) where
+module _ {test : ℕ → Bool} {len at left : ℕ} (are : AreNumbersLeft test len at left) where
   left-off : {i : ℕ} → at ≤ i → i < len → has_bit left i ≡ false → test i ≡ true
   left-off {i} low high none = not-false _ (second-off (and_from _ _ (lt-ltb _ _ high) (ap not (le-ltb i at low))) (sym (are.rest i) ∙ none))
 
@@ -68,7 +68,7 @@ module _ {test : ℕ → Bool} {len at left : ℕ} (are : AreLeft test len at le
     pub run-least : (least < len) × (test least ≡ false) × IsRunFrom test len at least
     run-least = grind (arith, common_steps, and_parts, ltb-true, cases_lt, lt-ltb, not-true, left-off)
 
-    pub left-next : {next : ℕ} → ((k : ℕ) → has_bit next k ≡ (has_bit left k && not (eqb k least))) → AreLeft test len (least + 1) next
+    pub left-next : {next : ℕ} → ((k : ℕ) → has_bit next k ≡ (has_bit left k && not (eqb k least))) → AreNumbersLeft test len (least + 1) next
     left-next told = grind (arith, common_steps, run-least, cases_lt, lt-ltb, and-false, cases_eq, eq-eqb, ne_eqb, le-ltb, and-true)
 
 -- ---- the words of a line

@@ -1,12 +1,13 @@
 -- Light Up: words of the cells that a cell sees, and runs that are safe.
 use Rattle.fields_core.proofs.Common.{AreSafe, AreSafeInColumns, Bool, Candidates, IsColumnRun, IsLeast, IsRowOf, IsRowRun, Layers, Light, List, ℕ, and-false, and_parts, any_below, any_below-none, any_below-some, ap, arith, bit_of, cases_Bool, cases_eq, common_steps, cond, count_below, count_below-few, count_below-lt, count_below-pos, div-mul-add, eq-eqb, eqb, eqb-true, false, get_or, get_or-set_other, get_or-set_same, has, has_bit, inl, inr, joined_in_column, joined_in_row, le-ltb, least_below, least_below-passes, length, length-map, light_cells, lt-ltb, ltb, ltb-true, map, map-set, mod-mul-add, not, not-false, not-true, or_cases, place-in, refl, set, slice_index, suc, sym, true, true≢false, white, zero, ◌%◌, ◌&&◌, ◌*◌, ◌+◌, ◌<◌, ◌||◌, ◌∙◌, ◌≡◌, ◌≢◌, ◌≤◌}
 use Rattle.fields_core.proofs.PlaceLists.{num}
-use Rattle.fields_core.proofs.VisitLemmas.{IsFull}
+use Rattle.fields_core.proofs.VisitLemmas.{IsBinaryAlive}
 use Rattle.fields_core.proofs.LightHouseLaws.{column-both, column-next, column-self, row-both}
 use Rattle.fields_core.proofs.CellLemmas.{has-at, row-read, second-off}
 use Rattle.fields_core.proofs.LightRunOrder.{column-white-start}
 
 -- Words of the cells that a cell of Light Up sees.
+
 -- ---- the least place
 pub some-least : (passes : ℕ → Bool) (n : ℕ) → any_below passes n ≡ true → (least : ℕ) × IsLeast passes n least
 unfolding any_below
@@ -53,6 +54,7 @@ two-places passes (suc n) many = elim (cases_Bool (passes n)) [
 ]
 
 -- Runs of Light Up with two cells that can have a bulb, or with one that must, as words.
+
 -- ---- cells that can have a bulb
 must-safe : {cells : ℕ → Bool} {K : Candidates} (c : ℕ) → cells c ≡ true → K c 1 ≡ true → K c 0 ≡ false → AreSafe cells K
 must-safe c there on off = record { one = c; other = c; one_in = there; other_in = there; one_on = on; other_on = on; apart = inr off }
@@ -91,7 +93,7 @@ module _ (p : Light) (y x : ℕ) (x_in : x < p.size.w) where
         must-safe _ a.1 (can_have planes size y a.0 is.0) (has-at planes y w.0 0 (rw size refl) a.0 (omega arith) ∙ not-true _ is.1)
 
   -- one of its column run that must
-  pub column-must : (run : ℕ) → IsColumnRun p cell run → (planes : Layers) (bits room : ℕ) → planes.size ≡ p.size → IsFull (light_cells p) (has planes)
+  pub column-must : (run : ℕ) → IsColumnRun p cell run → (planes : Layers) (bits room : ℕ) → planes.size ≡ p.size → IsBinaryAlive (light_cells p) (has planes)
       → ((k : ℕ) → has_bit bits k ≡ (has_bit run k && not (bit_of planes.rows k 0 x))) → any_below (has_bit bits) room ≡ true
       → AreSafe (joined_in_column p cell) (has planes)
   column-must run is planes bits room size full must some =

@@ -6,6 +6,7 @@ use Rattle.fields_core.proofs.BesideLemmas.{row-in}
 use Rattle.std.specs.Option.{unwrap_or}
 
 -- A cell sees a bulb exactly if a walk from it along its row or its column comes to one before a black cell.
+
 -- ---- the run around a white cell
 module _ (white bulb : ℕ → Bool) {len at start end : ℕ} (run : IsAround white len at start end) where
   pub run-bulb : {i : ℕ} → start ≤ i → i < end → i ≢ at → bulb i ≡ true → ShinesAlong white bulb at len true
@@ -95,6 +96,7 @@ black-unseen p g c off = unseen p g c (λ d lt ne joined. elim (or_cases _ _ joi
 ])
 
 -- What the next number that passes a test tells of a line.
+
 -- the first number after `at` that fails ends the run
 pub run-on : (test : ℕ → Bool) (len at : ℕ) (found : Option ℕ) → at < len → IsNext (λ i. not (test i)) len (at + 1) found → RunsOn test len at (unwrap_or found len)
 run-on test len at None lt next = grind (arith, common_steps, not-false)

@@ -4,7 +4,7 @@ use Rattle.fields_core.specs.declared.planes.light_up.waits.LineWaits.{LineWaits
 use Rattle.fields_core.specs.declared.planes.light_up.waits.RunKind.TheVariants.{Columns, Rows}
 unfoldable use Rattle.fields_core.proofs.IdleLemmas.{any_has}
 use Rattle.fields_core.proofs.IdleLemmas.{IsPartOf, any-below, any-none, any-one, below-idle, closed-idle, idle-far, idle-one, in-back, in-below, in-front}
-use Rattle.fields_core.proofs.VisitLemmas.{IsFull, below-rows}
+use Rattle.fields_core.proofs.VisitLemmas.{IsBinaryAlive, below-rows}
 use Rattle.fields_core.proofs.AtLeastLemmas.{IsAll, alls-kept, alls-ones, safe-stay}
 use Rattle.fields_core.proofs.LightRuleLemmas.{in-column-run, in-row-run, light-board}
 use Rattle.fields_core.proofs.LightHouseLaws.{column-white-end, row-self, white-in}
@@ -37,7 +37,7 @@ module _ (p : Light) (lawful : IsLight p) (c : ℕ) (is_white : white p c ≡ tr
   seen-in-column d joined = grind (arith, common_steps, cases_eq, place-front, in-row-run, row-self, white-in, light-board, column-white-end, place-back, place-kept, in-column-run, ne_eqb)
 
 -- ---- a run with two cells that can have a bulb, or one that must, leaves the houses of its cells idle
-run-safe : {p : Light} (c : ℕ) {K : Candidates} {joined : ℕ → Bool} → IsLight p → IsFull (light_cells p) K
+run-safe : {p : Light} (c : ℕ) {K : Candidates} {joined : ℕ → Bool} → IsLight p → IsBinaryAlive (light_cells p) K
     → (white p c ≡ true → (d : ℕ) → joined d ≡ true → has_place (seen_from p c) d ≡ true) → AreSafe joined K → AreIdle (lit_house p c) K
 unfolding after_houses
 run-safe {p} c {K} lawful full seen safe = elim (cases_Bool (white p c)) [
@@ -46,10 +46,10 @@ run-safe {p} c {K} lawful full seen safe = elim (cases_Bool (white p c)) [
   | inr off ↦ rw off refl
 ]
 
-pub row-safe : {p : Light} (c : ℕ) {K : Candidates} → IsLight p → IsFull (light_cells p) K → AreSafe (joined_in_row p c) K → AreIdle (lit_house p c) K
+pub row-safe : {p : Light} (c : ℕ) {K : Candidates} → IsLight p → IsBinaryAlive (light_cells p) K → AreSafe (joined_in_row p c) K → AreIdle (lit_house p c) K
 row-safe {p} c lawful full = run-safe c lawful full (seen-in-row p lawful c)
 
-pub column-safe : {p : Light} (c : ℕ) {K : Candidates} → IsLight p → IsFull (light_cells p) K → AreSafe (joined_in_column p c) K → AreIdle (lit_house p c) K
+pub column-safe : {p : Light} (c : ℕ) {K : Candidates} → IsLight p → IsBinaryAlive (light_cells p) K → AreSafe (joined_in_column p c) K → AreIdle (lit_house p c) K
 column-safe {p} c lawful full = run-safe c lawful full (seen-in-column p lawful c)
 
 -- a black cell has no house
@@ -58,7 +58,7 @@ unfolding after_houses
 black-idle p c K off = rw off refl
 
 -- ---- on planes
-pub planes-full : (p : Light) (from : Layers) → from.size ≡ p.size → ArePlanesAlive from → IsFull (light_cells p) (has from)
+pub planes-full : (p : Light) (from : Layers) → from.size ≡ p.size → ArePlanesAlive from → IsBinaryAlive (light_cells p) (has from)
 planes-full p from size alive = record { low = value-in from; some = λ c lt. alive c (rw size lt) }
 
 -- ---- where houses lie
@@ -90,7 +90,7 @@ lits-each {p} {c} lawful lt = all-if _ (λ on. record { is = lit-is lawful lt on
 
 -- ---- once cells of these lines have lost 0, and cells of those 1
 module _ {W : Type 0} (bits : W → ℕ) {room : ℕ} (p : Light) {before now : LineWaits W} {zeros ones : Touched W} (K L : Candidates)
-    (lawful : IsLight p) (narrow : p.size.w ≤ room) (low : p.size.h ≤ room) (full : IsFull (light_cells p) K) (still : IsFull (light_cells p) L) (inside : IsInside L K)
+    (lawful : IsLight p) (narrow : p.size.w ≤ room) (low : p.size.h ≤ room) (full : IsBinaryAlive (light_cells p) K) (still : IsBinaryAlive (light_cells p) L) (inside : IsInside L K)
     (lost_zero : IsLostIn bits p.size.w 0 K L zeros) (lost_one : IsLostIn bits p.size.w 1 K L ones)
     (woken : AreLinesWoken bits room before zeros ones now) (rested : AreLinesRested bits p before K) where
   lost : (c v : ℕ) → v < 2 → K c v ≡ true → L c v ≡ false
@@ -232,6 +232,7 @@ module _ {W : Type 0} (bits : W → ℕ) (p : Light) (before now : LineWaits W) 
   }
 
 -- Sweeps of the houses of Light Up on planes.
+
 -- ---- runs and white cells that are visited leave others idle
 pub runs-single : (p : Light) (kind : RunKind) (k : ℕ) → IsLight p → k < run_lines p kind → AllByRecursion (IsSingle (light_cells p)) (run_houses p kind k)
 runs-single p Rows k lawful lt = line-single p (row-runs-of p k lawful)

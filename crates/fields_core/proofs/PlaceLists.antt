@@ -3,6 +3,7 @@ use Rattle.fields_core.proofs.Common.{All-from_get_or, AreDifferent, AreDistinct
 use Rattle.grid_core.proofs.PairingLemmas.{apart-le}
 
 -- Lists of different numbers: a number's place in one, and a choice of different numbers below n names each of them.
+
 -- where a number stands in a list
 unfoldable pub index_of : List ℕ → ℕ → ℕ
 index_of xs d = least_below (λ k. eqb (slice_index xs k) d) (length xs)

@@ -1,12 +1,13 @@
 -- Sweeps of planes, closings by them, and lines that wait.
 use Rattle.fields_core.proofs.Common.{AreHouses, AreLinesOf, AreMet, ArePlanesAlive, AreSpread, AreVisited, Bool, Candidates, CountHouse, CountPuzzle, Dead, IsClosedAround, IsClosedGrid, IsClosing, IsCounting, IsFurther, IsInside, IsLostIn, IsSweep, IsWithin, Layers, List, Open, RuleSystem, Touched, [], after_houses, and_parts, ap, arith, back_at, by_fillings-met, cases_Bool, cases_eq, cells_of, common_steps, count-lawful, count_below, count_below-pos, count_house_of, count_puzzle, counts_between, false, false_from_ne_true, further-more, further-none, has, has_bit, has_place-here, inl, inr, is_dead, is_dead-each, is_dead-here, is_dead-not, lt-ltb, ltb, max, max_cells, meets, only-inside, only-other, or_parts, refl, rules_of, single-at, slice_index, start_of, strikes_of, swept_by, sym, total, true, true≢false, within_inside, ℕ, ◌%◌, ◌&&◌, ◌*◌, ◌+◌, ◌-◌, ◌/◌, ◌<◌, ◌∙◌, ◌≡◌, ◌≤◌, ◌⊎◌}
 use Rattle.engine_core.proofs.SweepLemmas.{IsSwept, fewer, sweep-shut, swept-dead, swept-first, swept-idle, swept-turn}
-use Rattle.fields_core.proofs.VisitLemmas.{IsFull, replay-visits}
+use Rattle.fields_core.proofs.VisitLemmas.{IsBinaryAlive, replay-visits}
 use Rattle.engine_core.proofs.QueueLemmas.{alive_around}
 use Rattle.grid_core.proofs.TakingLemmas.{put_back-none}
 use Rattle.fields_core.proofs.BesideLemmas.{IsNextTo}
 
 -- Sweeps of the count houses of a puzzle on planes, and closings by them.
+
 -- ---- each cell has a value
 none-counted : (K : Candidates) (c : ℕ) → ((v : ℕ) → v < 2 → K c v ≡ false) → count_below (K c) 2 ≡ 0
 unfolding count_below
@@ -100,6 +101,7 @@ closed-met p {g} houses grid = record {
 }
 
 -- Lines that wait: what is beside lines that have changed, and which cells have lost values.
+
 -- a line that does not wait is none of these, nor beside one
 pub spread-off : {W : Type 0} (bits : W → ℕ) {room : ℕ} (before : W) (lines : ℕ → Bool) (now : W) → AreSpread bits room before lines now
     → {j k : ℕ} → lines j ≡ true → k < room → has_bit (bits now) k ≡ false → IsNextTo j k → ⊥
@@ -124,10 +126,10 @@ module _ (p : CountPuzzle) {K : Candidates} {place : ℕ} (around : IsClosedArou
   pub around-inside : IsInside K around.before
   around-inside = rw (around.is) (only-inside around.before place around.value)
 
-  pub full-before : IsFull p.cells around.before
+  pub full-before : IsBinaryAlive p.cells around.before
   full-before = record { low = λ c v on. (around.within c v on).1; some = λ c lt. counted-some around.before c (is_dead-not p.cells 2 around.before c around.alive lt) }
 
-  pub full-around : IsFull p.cells K
+  pub full-around : IsBinaryAlive p.cells K
   full-around = record {
     low = λ c v on. full-before.low c v (around-inside c v on);
     some = λ c lt. counted-some K c (is_dead-not p.cells 2 K c (alive_around around) lt);

@@ -1,7 +1,8 @@
 -- Where a search of count houses starts, and the first test that fails.
-use Rattle.fields_core.proofs.Common.{AllByRecursion, AreRight, Bool, Candidates, IsFirstFailed, IsMade, IsNext, Kind, Layout, List, None, Option, Row, SameShape, Some, all_of, and-true, ap, arith, cases_Bool, cases_eq, cases_lt, common_steps, covers, crosses, div-add-mod', div-lt_iff_lt-mul, eq-eqb, eqb, first_in, fun_ext, has_bit, le-ltb, lt-ltb, ltb, mod-lt, ne_eqb, not, not-false, not-true, or-false, or-true, start_of, tests, true, without, without_taking, ℕ, ◌%◌, ◌&&◌, ◌*◌, ◌++◌, ◌+◌, ◌/◌, ◌<◌, ◌||◌, ◌∙◌, ◌∷◌, ◌≡◌, ◌≤◌}
+use Rattle.fields_core.proofs.Common.{AllByRecursion, AreRight, Bool, Candidates, IsFirstFailed, IsKindMade, IsNext, TestKind, Layout, List, None, Option, Row, SameShape, Some, all_of, and-true, ap, arith, cases_Bool, cases_eq, cases_lt, common_steps, covers, crosses, div-add-mod', div-lt_iff_lt-mul, eq-eqb, eqb, first_in, fun_ext, has_bit, le-ltb, lt-ltb, ltb, mod-lt, ne_eqb, not, not-false, not-true, or-false, or-true, start_of, tests, true, without, without_taking, ℕ, ◌%◌, ◌&&◌, ◌*◌, ◌++◌, ◌+◌, ◌/◌, ◌<◌, ◌||◌, ◌∙◌, ◌∷◌, ◌≡◌, ◌≤◌}
 
 -- The board that a search of count houses starts from.
+
 -- ---- the start, with the cells below a place blocked
 pub record IsStarted (cells : ℕ) (blocked : ℕ → Bool) (n : ℕ) (K : Candidates) : Type 0 where
   pub sets : (c v : ℕ) → K c v ≡ (all_of cells 2 c v && not ((ltb c n && blocked c) && eqb v 1))
@@ -38,15 +39,16 @@ pub same-shape : {a b c : Layout} → SameShape a b → SameShape b c → SameSh
 same-shape p q = record { same_values = q.same_values ∙ p.same_values; same_cells = q.same_cells ∙ p.same_cells }
 
 -- The first test of a kind that fails, as a search for it tells.
+
 -- so a search for a wrong one of this kind comes out
-abbrev pub IsSearched : {F : Type 0} → Kind F → Option ℕ → Type 0
-IsSearched k found = IsNext (λ n. not (k.right n)) k.count 0 found
+abbrev pub IsFirstWrong : {F : Type 0} → TestKind F → Option ℕ → Type 0
+IsFirstWrong k found = IsNext (λ n. not (k.right n)) k.count 0 found
 
 module _ {F : Type 0} (fails : F → Type 0) where
-  pub all-right : (k : Kind F) → IsSearched k None → AreRight fails k
+  pub all-right : (k : TestKind F) → IsFirstWrong k None → AreRight fails k
   all-right k none c lt = not-false _ (none c (omega arith) lt)
 
-  pub first-wrong : (front : List (Kind F)) (k : Kind F) (rest : List (Kind F)) → AllByRecursion (IsMade fails) (front ++ k ∷ rest)
-      → AllByRecursion (AreRight fails) front → {c : ℕ} → IsSearched k (Some c) → IsFirstFailed fails (tests (front ++ k ∷ rest)) (k.test c)
+  pub first-wrong : (front : List (TestKind F)) (k : TestKind F) (rest : List (TestKind F)) → AllByRecursion (IsKindMade fails) (front ++ k ∷ rest)
+      → AllByRecursion (AreRight fails) front → {c : ℕ} → IsFirstWrong k (Some c) → IsFirstFailed fails (tests (front ++ k ∷ rest)) (k.test c)
   first-wrong front k rest made right {c} next =
       first_in fails front k rest made right c next.1 (not-true _ next.2) (λ d low. not-false _ (next.3 d (omega arith) low))

@@ -3,6 +3,7 @@ use Rattle.fields_core.proofs.Common.{Bool, Extent, IsAround, IsLatest, IsLight,
 use Rattle.fields_core.proofs.LightHouseLaws.{clear-at, clear-from}
 
 -- The run around a cell of a line is what has only white cells between it and the cell.
+
 -- ---- a filter over numbers one after another
 pub range-split : (s a b : ℕ) → range_with_len s (a + b) ≡ range_with_len s a ++ range_with_len (s + a) b
 range-split s zero b = let z : s + 0 ≡ s = omega arith in let y : 0 + b ≡ b = omega arith in rw (z, y) refl
@@ -135,7 +136,7 @@ pub column-made : (size : Extent) (x : ℕ) {w h : ℕ} → w ≡ size.w → h �
 column-made size x e f = grind (arith, common_steps, map-same)
 
 -- A segment that is cut at a cell.
--- ---- the cells of some segments and of empty ones
+
 -- ---- a line cut at one of its cells
 abbrev pub line : ℕ → ℕ → ℕ → List ℕ
 line first stride n = map (λ k. first + k * stride) (range_with_len 0 n)
@@ -183,6 +184,7 @@ line-cut first stride k m {place} pos here =
     behind = grind (arith, common_steps, eq-eqb, kept-others, line-from)
 
 -- The runs that a walk over the cells keeps.
+
 -- ---- the run around a cell of a line
 pub around-begun : (p : Light) (first stride : ℕ) {len at end : ℕ} → begins_at p first stride at ≡ true
     → RunsOn (line_white p first stride) len at end → IsAround (line_white p first stride) len at at end

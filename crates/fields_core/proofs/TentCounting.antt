@@ -9,6 +9,7 @@ use Rattle.fields_core.proofs.CellLemmas.{column-house, row-house}
 use Rattle.fields_core.proofs.VisitLemmas.{among-back, among-below, among-front, among-house, among-one, visited-one}
 
 -- The count houses of Tents keep to what every rule set of count houses keeps to.
+
 -- the parts of a solution
 pub record TentParts (p : Tents) (g : List ℕ) : Type 0 where
   pub trees : all_below (tree_right p g) (tent_cells p) ≡ true
@@ -232,6 +233,7 @@ pub tent-lawful : {p : Tents} → IsTents p → IsLawful (tent_rules p)
 tent-lawful is = count-lawful _ _ _ _ (tent-counting is)
 
 -- Visits of the houses of Tents on planes.
+
 -- ---- the houses of Tents are houses
 module _ (p : Tents) (lawful : IsTents p) where
   pub column-is : {x : ℕ} → x < p.size.w → IsHouse (tent_cells p)

@@ -4,6 +4,7 @@ use Rattle.fields_core.proofs.RunLemmas.{passing, passing-more, passing-suc}
 use Rattle.fields_core.proofs.BesideLemmas.{ascends, some-inj, steps-has, steps-some}
 
 -- The houses of lines and of squares of Tents.
+
 -- the squares, by the column and the row of their top left cells
 pub square-there : (p : Tents) (y x : ℕ) → x + 1 < p.size.w → y + 1 < p.size.h
     → square_house p (y * p.size.w + x) ≡ one_at_most ((y * p.size.w + x) ∷ (y * p.size.w + x + 1) ∷ (y * p.size.w + x + p.size.w) ∷ (y * p.size.w + x + p.size.w + 1) ∷ []) ∷ []
@@ -12,9 +13,8 @@ square-there p y x right low = grind (arith, common_steps, place-column, div-mul
 pub square-none : (p : Tents) (y x : ℕ) → x < p.size.w → ((x + 1 < p.size.w) → p.size.h ≤ y + 1) → square_house p (y * p.size.w + x) ≡ []
 square-none p y x lt edge = grind (arith, common_steps, place-column, div-mul-add)
 
--- the lines
-
 -- The tents of a line, and the cells that a cell can touch.
+
 -- so many of the first cells of a line have a tent
 pub record IsLineCounted (g line : List ℕ) (n tents : ℕ) : Type 0 where
   pub few : tents ≤ n
@@ -263,13 +263,13 @@ next-found {p} {c} {n} {other} wide passed lt at inside on is ge = (
 )
 
 -- the next tree that a tent is joined to
-abbrev pub IsNextJoined : Tents → List ℕ → ℕ → ℕ → Option ℕ → Type 0
-IsNextJoined p tents l from o = MatchOption o ((r : ℕ) → from ≤ r → r < tree_count p → may_pair p tents l r ≡ true → ⊥)
+abbrev pub IsNextPaired : Tents → List ℕ → ℕ → ℕ → Option ℕ → Type 0
+IsNextPaired p tents l from o = MatchOption o ((r : ℕ) → from ≤ r → r < tree_count p → may_pair p tents l r ≡ true → ⊥)
     (λ r. (from ≤ r) × (r < tree_count p) × (may_pair p tents l r ≡ true) × ((q : ℕ) → from ≤ q → q < r → may_pair p tents l q ≡ true → ⊥))
 
 pub next-joined : (p : Tents) (tents : List ℕ) (l from c : ℕ) (o : Option ℕ)
     → c ≡ slice_index tents l → IsNext (tree_beside p c) (tree_count p) from o
-    → IsNextJoined p tents l from o
+    → IsNextPaired p tents l from o
 unfolding may_pair
 next-joined p tents l from c None e next = λ r ge lt on. true≢false (sym (rw (sym e) at on) ∙ next r ge lt)
 next-joined p tents l from c (Some d) e next = (next.0, next.1, rw (sym e) next.2, λ q ge lt on. true≢false (sym (rw (sym e) at on) ∙ next.3 q ge lt))

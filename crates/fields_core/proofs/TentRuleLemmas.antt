@@ -1,5 +1,5 @@
 -- Tents: pairings, and that a grid without a fault is a solution.
-use Rattle.fields_core.proofs.Common.{AllByRecursion, AreDistinct, AreIn, AreRight, Bool, FailsTents, Fills, IsGrid, IsKnown, IsMade, IsPairedBy, IsTentFault, IsTentSolution, Kind, List, NoneFails, Option, Tents, [], all_below, all_below-at, all_below-from, and_from, and_parts, any_below-here, any_below-none, any_below-some, ap, arith, can_be_paired, cases_eq, column_right, common_steps, count_below, counted, different-from, distinct-filter, distinct-from, eq-eqb, eqb-true, false, false_from_ne_true, filter, get_or-map, get_or-map-range_with_len, get_or-range_with_len, has_place, has_place-here, has_value, inl, inr, is_some, known_tests, leaves_none_out, length, length-map, length-range_with_len, length-take, map, may_pair, names_none_twice, none_held, none_tells, not, not-false, not-true, or_cases, or_left, or_parts, or_right, place-filter, place-kept, range_with_len, right_none, row_right, slice_index, solves_tents, steps, subst, sym, take, tent, tent_cells, tent_tests, test_from_filling, touch_right, touches, tree, tree_count, tree_right, trees_beside, trees_of, true, true≢false, ℕ, ◌&&◌, ◌<◌, ◌∙◌, ◌∷◌, ◌≡◌, ◌≤◌}
+use Rattle.fields_core.proofs.Common.{AllByRecursion, AreDistinct, AreIn, AreRight, Bool, FailsTents, Fills, IsGrid, IsKnown, IsKindMade, IsPairedBy, IsTentFault, IsTentSolution, TestKind, List, NoneFails, Option, Tents, [], all_below, all_below-at, all_below-from, and_from, and_parts, any_below-here, any_below-none, any_below-some, ap, arith, can_be_paired, cases_eq, column_right, common_steps, count_below, counted, different-from, distinct-filter, distinct-from, eq-eqb, eqb-true, false, false_from_ne_true, filter, get_or-map, get_or-map-range_with_len, get_or-range_with_len, has_place, has_place-here, has_value, inl, inr, is_some, known_tests, leaves_none_out, length, length-map, length-range_with_len, length-take, map, may_pair, names_none_twice, none_held, none_tells, not, not-false, not-true, or_cases, or_left, or_parts, or_right, place-filter, place-kept, range_with_len, right_none, row_right, slice_index, solves_tents, steps, subst, sym, take, tent, tent_cells, tent_tests, test_from_filling, touch_right, touches, tree, tree_count, tree_right, trees_beside, trees_of, true, true≢false, ℕ, ◌&&◌, ◌<◌, ◌∙◌, ◌∷◌, ◌≡◌, ◌≤◌}
 use Rattle.grid_core.specs.Pairings.{IsPairing, IsShortSet}
 use Rattle.grid_core.proofs.PairingLemmas.{no_choice}
 use Rattle.fields_core.proofs.PlaceLists.{different-map, distinct-none-twice, each-named, few-below, index-is, index_of, none-twice-from, place-map}
@@ -11,6 +11,7 @@ use Rattle.fields_core.specs.declared.tents.fault.TentFault.TheVariants.{Column,
 
 -- Tents and trees can be paired exactly if there are as many of both and each tent can have a tree of its own: then none is
 -- left out. A pairing is a choice of a tree for each tent, which a short set rules out.
+
 -- ---- the tents by place
 pub tents-distinct : (p : Tents) (g : List ℕ) → AreDistinct (tents_of p g)
 unfolding tents_of
@@ -233,30 +234,30 @@ solution-from-tents p g grid on =
 
 -- ---- each test, as it is computed
 module _ (p : Tents) (g : List ℕ) where
-  abbrev pub trees : Kind TentFault
+  abbrev pub trees : TestKind TentFault
   trees = record { test = Tree; count = tent_cells p; right = tree_right p g }
 
-  abbrev pub touch : Kind TentFault
+  abbrev pub touch : TestKind TentFault
   touch = record { test = Touch; count = tent_cells p; right = touch_right p g }
 
-  abbrev pub columns : Kind TentFault
+  abbrev pub columns : TestKind TentFault
   columns = record { test = Column; count = p.size.w; right = column_right p g }
 
-  abbrev pub rows : Kind TentFault
+  abbrev pub rows : TestKind TentFault
   rows = record { test = Row; count = p.size.h; right = row_right p g }
 
-  abbrev pub match : Kind TentFault
+  abbrev pub match : TestKind TentFault
   match = record { test = λ _. Match; count = 1; right = λ _. can_be_paired p g }
 
-  abbrev pub kinds : List (Kind TentFault)
+  abbrev pub kinds : List (TestKind TentFault)
   kinds = trees ∷ touch ∷ columns ∷ rows ∷ match ∷ []
 
   module _ (grid : IsGrid (tent_cells p) 2 g) where
-    tree-made : IsMade (FailsTents p g) trees
+    tree-made : IsKindMade (FailsTents p g) trees
     unfolding tree_right
     tree-made = grind (arith, common_steps, or_parts, not-false, cases_eq, eq-eqb, or_cases, not-true, eqb-true)
 
-    touch-made : IsMade (FailsTents p g) touch
+    touch-made : IsKindMade (FailsTents p g) touch
     unfolding touch_right
     touch-made = record {
       failed = λ c lt off.
@@ -267,21 +268,21 @@ module _ (p : Tents) (g : List ℕ) where
           true≢false (sym (any_below-here _ _ d below (and_from _ _ touched on_d)) ∙ none);
     }
 
-    column-made : IsMade (FailsTents p g) columns
+    column-made : IsKindMade (FailsTents p g) columns
     unfolding column_right
     column-made = grind (arith, common_steps, eq-eqb, eqb-true)
 
-    row-made : IsMade (FailsTents p g) rows
+    row-made : IsKindMade (FailsTents p g) rows
     unfolding row_right
     row-made = grind (arith, common_steps, eq-eqb, eqb-true)
 
-    match-made : IsMade (FailsTents p g) match
+    match-made : IsKindMade (FailsTents p g) match
     match-made = record {
       failed = λ k lt off tree_of is. true≢false (sym (pairs-from grid.each_cell is) ∙ off);
       held = λ k lt on none. let w = given p g on in none _ (gives-tree grid.each_cell w.1);
     }
 
-    pub tents-made : AllByRecursion (IsMade (FailsTents p g)) kinds
+    pub tents-made : AllByRecursion (IsKindMade (FailsTents p g)) kinds
     tents-made = (tree-made, (touch-made, (column-made, (row-made, (match-made, tt)))))
 
     none-right : AllByRecursion (AreRight (FailsTents p g)) kinds → solves_tents p g ≡ true

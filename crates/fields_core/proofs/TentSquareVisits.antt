@@ -5,10 +5,11 @@ use Rattle.fields_core.proofs.CellLemmas.{cell-is, same-truth}
 use Rattle.fields_core.proofs.PlaceLists.{count-cons}
 use Rattle.fields_core.proofs.TentCounting.{square-is, square_places}
 use Rattle.fields_core.proofs.HouseLemmas.{all-houses, any-houses}
-use Rattle.fields_core.proofs.VisitLemmas.{IsFull, IsOneAtMost, below-rows, visited-dies, visited-left, visited-none, visits-met, visits-two, zeros_of}
+use Rattle.fields_core.proofs.VisitLemmas.{IsBinaryAlive, IsOneAtMost, below-rows, visited-dies, visited-left, visited-none, visits-met, visits-two, zeros_of}
 use Rattle.fields_core.proofs.PartLemmas.{struck-alive, value-in}
 
 -- The squares of two rows of Tents, by words of the columns with a cell that has no 0.
+
 -- ---- the cells of a square
 -- whether the cell is in one of two rows, and in one of two columns
 abbrev pub in_rows : ℕ → ℕ → ℕ → Bool
@@ -152,6 +153,7 @@ module _ (p : Tents) (y : ℕ) (lawful : IsTents p) (low : y + 1 < p.size.h) whe
         and_from _ _ at.0 (square-near c x.0 lt x.1 at.1 (sym (square-must zeros w y x.0) ∙ parts.1)))
 
 -- Visits of the squares of two rows of Tents.
+
 -- ---- visits of the squares of two rows
 zero-at : (q : Layers) (y : ℕ) {u : ℕ} {w : ℕ} → q.size.w ≡ w → u < w → has q (y * w + u) 0 ≡ bit_of q.rows y 0 u
 unfolding has
@@ -286,7 +288,7 @@ module _ (p : Tents) (y : ℕ) (from : Layers) (room twice must : ℕ) (lawful :
       visited-left (met ∙ sym (visits-met (squares_of_row p y) (has from) full each))
       (struck-alive from to (two_rows y near) 2 1 further.same_size (omega arith) alive left) further
     where
-      full : IsFull (tent_cells p) (has from)
+      full : IsBinaryAlive (tent_cells p) (has from)
       full = record { low = value-in from; some = λ c lt. alive c (rw size lt) }
 
       once-at : (u : ℕ) → u < width → (zeros (y * width + u) || zeros ((y + 1) * width + u)) ≡ true

@@ -5,14 +5,14 @@ use Rattle.fields_core.proofs.PlaceLists.{count-cons, count-none, count-some, fi
 use Rattle.fields_core.proofs.TentCounting.{tree-is}
 use Rattle.fields_core.proofs.VisitLemmas.{below-rest, below-rows, visited-dies, visited-left, visits-append, visits-inside}
 use Rattle.fields_core.proofs.HouseLemmas.{below-more}
-use Rattle.fields_core.proofs.AtLeastLemmas.{IsFilled, IsOfTwo, least-board, least-broken}
+use Rattle.fields_core.proofs.AtLeastLemmas.{IsHouseFilled, IsOfTwo, least-board, least-broken}
 
 -- ---- boards without zeros
 count-stays : (passes : ℕ → Bool) (K : Candidates) (places : List ℕ) → count_by (λ d. without_zeros passes K d 1) places ≡ count_by (λ d. K d 1) places
 unfolding without_zeros
 count-stays passes K places = ap (λ (test : ℕ → Bool). count_by test places) (fun_ext λ d. and-true (K d 1))
 
-filled-stays : (passes : ℕ → Bool) (K : Candidates) (places : List ℕ) → IsFilled places K → IsFilled places (without_zeros passes K)
+filled-stays : (passes : ℕ → Bool) (K : Candidates) (places : List ℕ) → IsHouseFilled places K → IsHouseFilled places (without_zeros passes K)
 filled-stays passes K places (inl none) = inl none
 filled-stays passes K places (inr some) = inr (omega (arith, some, count-stays passes K places))
 
@@ -41,7 +41,7 @@ struck p K y n c = (not (tree p c) && K c 1) && is_beside p.size y (lone p K y) 
 
 -- of the trees among the first n cells each has a free cell that can have a tent, or no free cell
 abbrev pub AreFilled : Tents → Candidates → ℕ → ℕ → Type 0
-AreFilled p K y n = (x : ℕ) → x < n → tree p (y * p.size.w + x) ≡ true → IsFilled (free_beside p (y * p.size.w + x)) K
+AreFilled p K y n = (x : ℕ) → x < n → tree p (y * p.size.w + x) ≡ true → IsHouseFilled (free_beside p (y * p.size.w + x)) K
 
 struck-one : (p : Tents) (K : Candidates) (y n c : ℕ) → struck p K y n c ≡ true → K c 1 ≡ true
 struck-one p K y n c on = (and_parts _ _ (and_parts _ _ on).0).1
@@ -54,7 +54,7 @@ module _ (p : Tents) (lawful : IsTents p) (K : Candidates) (y : ℕ) (y_in : y <
   house-in : {x : ℕ} → x < p.size.w → tree p (cell x) ≡ true → IsHouse (tent_cells p) (one_at_least (free_beside p (cell x)))
   house-in {x} lt is = tree-is p lawful (place-in p.size.w p.size.h y x y_in lt) is
 
-  next-tree : {n : ℕ} → n < p.size.w → tree p (cell n) ≡ true → IsFilled (free_beside p (cell n)) K
+  next-tree : {n : ℕ} → n < p.size.w → tree p (cell n) ≡ true → IsHouseFilled (free_beside p (cell n)) K
       → after_house (one_at_least (free_beside p (cell n))) (without_zeros (struck p K y n) K) ≡ without_zeros (struck p K y (suc n)) K
   unfolding without_zeros is_beside any_below
   next-tree {n} lt is filled =

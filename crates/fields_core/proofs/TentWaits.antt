@@ -2,8 +2,8 @@
 use Rattle.fields_core.proofs.Common.{AllByRecursion, AreBare, AreIdle, AreLinesOf, ArePlanes, ArePlanesAlive, AreTentsRested, AreTentsWoken, AreTentsWritten, AreVisited, Bool, Candidates, Columns, CountHouse, HasBoard, IsClosed, IsClosedAround, IsClosedBut, IsFieldOf, IsFurther, IsHouse, IsInside, IsLostIn, IsSweep, IsTents, Layers, List, Option, Rows, Some, Squares, Tents, Touched, Trees, Waits, [], all_of, all_of_kind, and_parts, ap, append_assoc, arith, back_at, cases_Bool, cases_eq, cells_of, column_of_tents, column_places, common_steps, eqb, eqb-true, exactly, false, false_from_ne_true, free_beside, get_or, get_or-append_right, has, has_bit, houses_below, inl, inr, is_barred, kind_houses, kind_lines, length, length-append, lt-ltb, ltb, ltb-true, map, needs_of, no_count_house, not, one_at_least, one_at_most, or_cases, or_left, or_parts, place-filter, place-in, refl, row_of_tents, row_places, slice_index, solves_tents, square_house, squares_of_row, start_of, suc, sym, tent_cells, tent_counts, tent_houses, tent_rules, tree, tree_house, trees_of_row, true, true≢false, waiting, zero, ℕ, ◌%◌, ◌&&◌, ◌*◌, ◌++◌, ◌+◌, ◌-◌, ◌/◌, ◌<◌, ◌∙◌, ◌∷◌, ◌≡◌, ◌≤◌, ◌⊎◌}
 use Rattle.fields_core.specs.declared.planes.tents.waits.Kind.{Kind}
 use Rattle.fields_core.proofs.HouseOrder.{IsSingle, single-keeps, singles-kept}
-use Rattle.fields_core.proofs.VisitLemmas.{IsFull}
-use Rattle.fields_core.proofs.IdleLemmas.{ArePassed, AreQuiet, IsPartOf, Keeps, any-below, any-none, any-one, closed-idle, idle-far, in-back, in-below, in-front, keeps-apart, keeps-itself, passed-first}
+use Rattle.fields_core.proofs.VisitLemmas.{IsBinaryAlive}
+use Rattle.fields_core.proofs.IdleLemmas.{AreLinesPassed, AreQuiet, IsPartOf, KeepsIdle, any-below, any-none, any-one, closed-idle, idle-far, in-back, in-below, in-front, keeps-apart, keeps-itself, passed-first}
 use Rattle.fields_core.proofs.AtLeastLemmas.{IsAll, all-keeps, alls-kept}
 use Rattle.fields_core.proofs.PartLemmas.{value-in}
 use Rattle.fields_core.proofs.TentCounting.{column-is, row-is, square-is, square_places, tent-field, tree-is}
@@ -18,6 +18,7 @@ use Rattle.fields_core.specs.declared.planes.tents.tent_notes.TentNotes.{TentNot
 use Rattle.fields_core.proofs.CellLemmas.{first-off, place-on}
 
 -- What waits of Tents: where its houses lie, what stays idle while others of a kind are visited, and what is idle where a closing begins.
+
 -- ---- where houses lie
 module _ (p : Tents) (c : ℕ) (pos : 0 < p.size.w) where
   pub column-lies : {x : ℕ} → x < p.size.w → any_has (column_of_tents p x) c ≡ true → c % p.size.w ≡ x
@@ -124,7 +125,7 @@ squares-each {p} {y} lawful lt = all-houses (IsSingle (tent_cells p)) (λ x. squ
 
 -- what does not wait on a board stays idle once cells of these lines have lost values
 pub rested-board : {W : Type 0} {bits : W → ℕ} {room : ℕ} {p : Tents} {before now : Waits W} {zeros ones : Touched W} {K L : Candidates}
-    → IsTents p → p.size.h ≤ room → AreTentsWoken bits room before zeros ones now → IsFull (tent_cells p) K → IsFull (tent_cells p) L → IsInside L K
+    → IsTents p → p.size.h ≤ room → AreTentsWoken bits room before zeros ones now → IsBinaryAlive (tent_cells p) K → IsBinaryAlive (tent_cells p) L → IsInside L K
     → IsLostIn bits p.size.w 0 K L zeros → IsLostIn bits p.size.w 1 K L ones → AreTentsRested bits p before K → AreTentsRested bits p now L
 unfolding any_has
 rested-board {bits} {room} {p} {before} {now} {zeros} {ones} {K} {L} lawful low woken full still inside lost_zero lost_one rested kind k lt off =
@@ -222,7 +223,7 @@ module _ (p : Tents) (lawful : IsTents p) where
   kind-each Trees k lt = trees-each lawful lt
   kind-each Squares k lt = squares-each lawful lt
 
-  kind-keeps : (kind : Kind) (visited house : CountHouse) → IsOfKind p kind visited → IsOfKind p kind house → Keeps (tent_cells p) visited house
+  kind-keeps : (kind : Kind) (visited house : CountHouse) → IsOfKind p kind visited → IsOfKind p kind house → KeepsIdle (tent_cells p) visited house
   unfolding any_has
   kind-keeps Columns visited house is other = rw (is.2, other.2) (elim (cases_eq is.0 other.0) [
     | inl same ↦ rw same (keeps-itself (tent_cells p) (column_house p other.0))
@@ -250,10 +251,11 @@ field-further field further alive = grind (arith, common_steps, false_from_ne_tr
 -- ---- visits of the lines of a kind that wait
 pub kind-first : {W : Type 0} (bits : W → ℕ) (p : Tents) (kind : Kind) (waits : Waits W) {left : ℕ → Bool} {from : Layers} → ArePlanesAlive from
     → AreTentsRested bits p waits (has from) → ((k : ℕ) → left k ≡ (has_bit (waiting bits waits kind) k && ltb k (kind_lines p kind)))
-    → ArePassed (kind_houses p kind) (kind_lines p kind) left from from
+    → AreLinesPassed (kind_houses p kind) (kind_lines p kind) left from from
 kind-first bits p kind waits alive rested is = grind (arith, common_steps, passed-first, ltb-true, and_parts, first-off, lt-ltb)
 
 -- Tents on planes: the sides that the memory is for, and what a closing asks of planes.
+
 -- ---- the sides that the memory is for
 abbrev singles : (ℕ → CountHouse) → ℕ → List CountHouse
 singles f = λ k. f k ∷ []

@@ -6,6 +6,7 @@ use Rattle.fields_core.proofs.CountKept.{after-at, has-value, off-scope}
 use Rattle.fields_core.proofs.PlaceLists.{count-cons, count-none, count-some, some-counted}
 
 -- Visits of count houses, one after another, and which houses are among those of a puzzle.
+
 -- ---- the board after visits
 pub after-inside : (house : CountHouse) (K : Candidates) → IsInside (after_house house K) K
 unfolding after_house
@@ -173,7 +174,7 @@ pub record IsOneAtMost (cells : ℕ) (zeros : ℕ → Bool) (house : CountHouse)
   pub few : count_by (λ d. not (zeros d)) house.places ≤ 1
 
 -- a board of values below 2, with one for each cell
-pub record IsFull (cells : ℕ) (K : Candidates) : Type 0 where
+pub record IsBinaryAlive (cells : ℕ) (K : Candidates) : Type 0 where
   pub low : (c v : ℕ) → K c v ≡ true → v < 2
   pub some : (c : ℕ) → c < cells → (K c 0 ≡ true) ⊎ (K c 1 ≡ true)
 
@@ -196,7 +197,7 @@ unfolding after_house
 others-stay house K c v out = rw (off-scope house K c v out) (and-true (K c v))
 
 -- ---- one house, of one at most
-after-met : {cells : ℕ} {house : CountHouse} {K : Candidates} (c v : ℕ) → IsFull cells K → IsOneAtMost cells (zeros_of K) house
+after-met : {cells : ℕ} {house : CountHouse} {K : Candidates} (c v : ℕ) → IsBinaryAlive cells K → IsOneAtMost cells (zeros_of K) house
     → after_house house K c v ≡ (K c v && not (eqb v 1 && (K c 0 && is_met (zeros_of K) house c)))
 unfolding is_met
 after-met {cells} {house} {K} c v full one = elim (cases_Bool (K c v)) [
@@ -223,16 +224,16 @@ after-met {cells} {house} {K} c v full one = elim (cases_Bool (K c v)) [
     by v low must may any few on is some = grind (arith, common_steps, cases_Bool (K c 0), cases_Bool (K c 1), cases_Bool any, cases_eq must 1, cases_eq may 0, cases_eq v 1, eq-eqb, ne_eqb, lt-ltb, le-ltb)
 
 -- no cell loses 0
-pub zeros-stay : {cells : ℕ} {house : CountHouse} {K : Candidates} → IsFull cells K
+pub zeros-stay : {cells : ℕ} {house : CountHouse} {K : Candidates} → IsBinaryAlive cells K
     → IsOneAtMost cells (zeros_of K) house → zeros_of (after_house house K) ≡ zeros_of K
 zeros-stay {house} {K} full one = fun_ext λ d. after-met d 0 full one ∙ and-true (K d 0)
 
-full-after : {cells : ℕ} {house : CountHouse} {K : Candidates} → IsFull cells K
-    → IsOneAtMost cells (zeros_of K) house → IsFull cells (after_house house K)
+full-after : {cells : ℕ} {house : CountHouse} {K : Candidates} → IsBinaryAlive cells K
+    → IsOneAtMost cells (zeros_of K) house → IsBinaryAlive cells (after_house house K)
 full-after {cells} {house} {K} full one = grind (arith, common_steps, and_parts, after-met, cases_Bool)
 
 -- ---- houses of one at most, one after another
-pub visits-met : {cells : ℕ} (houses : List CountHouse) (K : Candidates) → IsFull cells K
+pub visits-met : {cells : ℕ} (houses : List CountHouse) (K : Candidates) → IsBinaryAlive cells K
     → AllByRecursion (IsOneAtMost cells (zeros_of K)) houses → after_houses houses K ≡ without_met houses K
 unfolding after_houses without_met
 visits-met [] K full all = grind (arith, common_steps, cases_Bool)

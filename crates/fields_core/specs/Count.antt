@@ -1,4 +1,4 @@
--- Houses that count the ones of their cells.
+-- Houses that count the ones of their cells, and what is counted of these cells.
 use Rattle.std.specs.Prelude.{Bool, List, [], nat_le, nat_lt, not, suc, zero, ℕ, ◌&&◌, ◌==◌, ◌||◌, ◌∷◌, ◌≡◌}
 use Rattle.grid_core.specs.Candidates.{Candidates}
 use Rattle.fields_core.specs.Below.{count_by}
@@ -6,6 +6,7 @@ use Rattle.fields_core.specs.declared.count.house.Bounds.{Bounds}
 use Rattle.fields_core.specs.declared.count.tally.Tally.{Tally}
 
 -- Houses that count the ones of their cells.
+
 -- how many ones a filling has; any number but 0 counts as one
 abbrev pub nonzeros : List ℕ → ℕ
 nonzeros [] = 0
@@ -25,6 +26,7 @@ abbrev pub is_empty : Candidates → ℕ → Bool
 is_empty K c = not (K c 0) && not (K c 1)
 
 -- What is counted of the cells of count houses.
+
 -- how many of the cells have no 0, how many have a 1, and how many have neither
 pub record IsTally (K : Candidates) (places : List ℕ) (tally : Tally) : Type 0 where
   pub must_is : tally.must ≡ count_by (λ c. not (K c 0)) places

@@ -1,4 +1,4 @@
--- Planes of Light Up, and the words of a puzzle beside them.
+-- Light Up on planes: runs of white cells as words of bits, and the words of a puzzle beside planes.
 use Rattle.std.specs.Prelude.{Bool, List, false, length, map, nat_lt, slice_index, slice_index_or, true, ℕ, ◌%◌, ◌&&◌, ◌*◌, ◌+◌, ◌/◌, ◌<◌, ◌≡◌, ◌≤◌}
 use Rattle.fields_core.specs.Below.{Black, IsLight, Layers, Light, LightCell, Numbered, White, has_bit}
 use Rattle.fields_core.specs.CountHouse.{CountHouse}
@@ -10,6 +10,7 @@ use Rattle.fields_core.specs.declared.planes.light_up.light_notes.LightNotes.{Li
 use Rattle.fields_core.specs.declared.planes.light_up.tables.LightTables.{LightTables}
 
 -- Runs of white cells of Light Up as words of bits.
+
 -- the bits are the places along its row of the run that the cell is in: none where the cell is black; and along its column
 abbrev pub IsRowRun : Light → ℕ → ℕ → Type 0
 IsRowRun p c bits = (x : ℕ) → has_bit bits x
@@ -43,6 +44,7 @@ unfoldable pub is_numbered : Light → ℕ → Bool
 is_numbered p c = has_number (slice_index_or p.cells c Black)
 
 -- Planes of Light Up, and the words of a puzzle beside them.
+
 -- there are words for so many cells, and for so many lines
 pub record HasTables {W : Type 0} (cells lines : ℕ) (t : LightTables W) : Type 0 where
   pub rows : lines ≤ length t.rows.items

@@ -10,7 +10,8 @@ use Rattle.fields_core.specs.declared.count.name.HouseName.{HouseName}
 use Rattle.fields_core.specs.declared.light_up.light_house.LightHouse.{LightHouse}
 use Rattle.grid_core.specs.Words.{has_bit}
 
--- The runs that the cells of a line are in. No public contract uses these words.
+-- The runs that the cells of a line are in.
+
 -- the numbers of a line around `at` that pass, one after another: from `start` to the one before `end`
 pub record IsAround (test : ℕ → Bool) (len at start end : ℕ) : Type 0 where
   pub low : start ≤ at
@@ -73,7 +74,8 @@ abbrev pub TellsRun : LightHouse → WhiteLine → ℕ → Type 0
 TellsRun kind line at =
     light_house line.puzzle.now kind (line.first + at * line.stride) ≡ house_along line at
 
--- Words of runs along a line, as they are written one after another. No public contract uses these words.
+-- Words of runs along a line, as they are written one after another.
+
 -- the bits are the run that number `at` of a line of so many is in: none where it does not pass
 abbrev pub IsRunAt : (ℕ → Bool) → ℕ → ℕ → ℕ → Type 0
 IsRunAt test len at bits = (k : ℕ) → has_bit bits k ≡ (nat_lt k len && clear test at k)
@@ -101,7 +103,8 @@ abbrev pub AreRunsWritten : {W : Type 0} → (W → ℕ) → W → ℕ → ℕ �
 AreRunsWritten bits white first stride len from to =
     AreWritten (has_bit (bits white)) len first stride len (map bits from) (map bits to)
 
--- Runs of numbers that pass a test, and whether a number of a line sees a bulb. No public contract uses these words.
+-- Runs of numbers that pass a test, and whether a number of a line sees a bulb.
+
 -- the numbers after `at` pass, up to the one before the end; the end does not, if it is below len
 pub record RunsOn (test : ℕ → Bool) (len at end : ℕ) : Type 0 where
   pub past : at < end
@@ -134,7 +137,8 @@ SeesAlong joined cells g c true =
 SeesAlong joined cells g c false =
     (d : ℕ) → d < cells → d ≢ c → joined c d ≡ true → bulb g d ≡ false
 
--- Numbers of Light Up that no grid meets. No public contract uses these words.
+-- Numbers of Light Up that no grid meets.
+
 -- the cell has a number other than 0
 abbrev pub asks : LightCell → Bool
 asks White = false

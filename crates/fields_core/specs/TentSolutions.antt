@@ -8,6 +8,7 @@ use Rattle.fields_core.specs.declared.tents.fault.TentFault.TheVariants.{Column,
 -- Which grids solve a puzzle of Tents, in the words of the manual of Simon Tatham's Portable Puzzle Collection: no tent
 -- stands on a tree, no two tents touch, each column and row has its number of tents, and the tents are paired one to one
 -- with the trees, each with a tree beside it. Two pairings of one set of tents are one solution.
+
 -- each tent has a tree beside it, no two have the same, and each tree is some tent's
 pub record IsPairedBy (p : Tents) (g : List ℕ) (tree_of : ℕ → ℕ) : Type 0 where
   pub is_tree : (c : ℕ) → c < tent_cells p → tent g c ≡ true → tree p (tree_of c) ≡ true
@@ -29,6 +30,7 @@ pub record IsTentSolution (p : Tents) (g : List ℕ) : Type 0 where
   pub paired : IsPairedBy p g tree_of
 
 -- What is wrong with a grid of Tents: the first of these tests that fails, the lowest place, column or row of each kind first.
+
 -- a tent on a tree; a tent that touches a tent; a column and a row with another number of tents; no way to pair the
 -- tents with the trees
 abbrev pub FailsTents : Tents → List ℕ → TentFault → Type 0

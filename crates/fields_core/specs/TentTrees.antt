@@ -10,6 +10,7 @@ use Rattle.fields_core.specs.Visits.{without_zeros}
 use Rattle.fields_core.specs.Parts.{Piece}
 
 -- The trees of a row of Tents, and words of the cells beside them.
+
 -- the houses of the trees of a row
 abbrev pub trees_of_row : Tents → ℕ → List CountHouse
 trees_of_row p y = houses_below (λ x. tree_house p (y * p.size.w + x)) p.size.w
@@ -51,6 +52,7 @@ AreTakenBeside bits near places y from to = (passes : ℕ → Bool)
     && is_beside from.size y (has_bit (bits places)) from.size.w c) (has from)
 
 -- The squares of two rows of Tents.
+
 -- the houses of the squares whose upper row is y
 abbrev pub squares_of_row : Tents → ℕ → List CountHouse
 squares_of_row p y = houses_below (λ x. square_house p (y * p.size.w + x)) p.size.w

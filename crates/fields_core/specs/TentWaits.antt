@@ -12,7 +12,8 @@ use Rattle.fields_core.specs.declared.planes.tents.waits.Waits.{Waits}
 use Rattle.fields_core.specs.LineWords.{AreRowsOf, AreSpread}
 use Rattle.fields_core.specs.declared.planes.tents.tent_notes.TentNotes.{TentNotes}
 
--- Which houses of Tents wait on planes. No public contract uses these words.
+-- Which houses wait.
+
 -- the houses of a kind at a line, how many lines there are, all of them, and which wait
 abbrev pub kind_houses : Tents → Kind → ℕ → List CountHouse
 kind_houses p Columns k = column_of_tents p k
@@ -68,7 +69,8 @@ pub record AreTentsWoken {W : Type 0} (bits : W → ℕ) (room : ℕ) (before : 
       ≡ (has_bit (bits before.squares) k
       || (has_bit (bits zeros.rows) k || has_bit (bits zeros.rows) (k + 1)))
 
--- What Tents keeps beside planes. No public contract uses these words.
+-- What is kept beside planes.
+
 -- planes of the puzzle on words of so many places, in which each cell has a value, and the trees of each row that want a tent
 pub record IsFieldOf (room : ℕ) (p : Tents) (planes : Layers) (words : List ℕ) : Type 0 where
   pub lawful : IsTents p

@@ -32,19 +32,16 @@ pub trait CountGame: Drop + Sized {
     /// The scratch serves so many cells.
     ghost serves: { Self.Scratch → ℕ → Type 0 };
 
-    /// The same puzzle once more.
-    fn copied(&self, alloc: Global) -> Result<Self, AllocError>
-        ensures { IfOk result (λ copy. copy ≡ self.now) };
-
-    /// The names of its houses.
+    /// The same puzzle once more, and the names of its houses.
     ///
     /// # Errors
     ///
     /// When memory was refused.
-    fn names(&self, alloc: Global) -> Result<Vec<HouseName<Self::Kind>>, AllocError>
+    fn parts(&self, alloc: Global) -> Result<(Self, Vec<HouseName<Self::Kind>>), AllocError>
         ensures counting { IsCounted (counts self.now) }
+        ensures copied { IfOk result (λ parts. parts.0 ≡ self.now) }
         ensures named { IfOk result
-            (λ v. AreNamed (told self.now) v.items (counts self.now).houses) };
+            (λ parts. AreNamed (told self.now) parts.1.items (counts self.now).houses) };
 
     /// The house of that kind which the place or the line tells.
     fn house(&self, kind: Self::Kind, place: usize) -> House

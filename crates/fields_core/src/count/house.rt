@@ -210,7 +210,8 @@ pub(crate) fn count_passing<F: Fn(usize) -> bool>(
     requires x_in { x < size.w }
     requires y_in { y < size.h }
     requires callable { (c : ℕ) → c < size.w * size.h → F.pre passes c }
-    ensures count { CountsPassing (F.post passes) size (beside_places size (y * size.w + x)) result }
+    ensures count { CountsPassing (F.post passes) size
+        (beside_places size (y * size.w + x)) result }
     ensures few { result ≤ 4 }
 {
     let (w, h) = (usize::from(size.w()), usize::from(size.h()));

@@ -36,8 +36,8 @@ impl<P: CountGame> CountRules<P> {
         ensures rules { IfOk result (λ v. ⟦<Self as Rules>⟧.system v
             ≡ rules_of (P.counts puzzle.now)) }
     {
-        let names = Fixed::of(puzzle.names(alloc)?);
-        let puzzle = puzzle.copied(alloc)?;
+        let (puzzle, names) = puzzle.parts(alloc)?;
+        let names = Fixed::of(names);
         let longest = longest_of(&names);
         Ok(CountRules {
             puzzle,

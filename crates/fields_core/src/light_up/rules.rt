@@ -40,12 +40,12 @@ impl CountGame for LightPuzzle {
 
     ghost serves = { λ _ _. Unit {0} };
 
-    fn copied(&self, alloc: Global) -> Result<LightPuzzle, AllocError> {
-        self.copy(alloc)
-    }
-
-    fn names(&self, alloc: Global) -> Result<Vec<HouseName<LightHouse>>, AllocError> {
-        names_of_lights(alloc, self)
+    fn parts(
+        &self,
+        alloc: Global,
+    ) -> Result<(LightPuzzle, Vec<HouseName<LightHouse>>), AllocError> {
+        let names = names_of_lights(alloc, self)?;
+        Ok((self.copy(alloc)?, names))
     }
 
     fn house(&self, kind: LightHouse, place: usize) -> House {

@@ -2,7 +2,7 @@
 
 ghost use Rattle.std.specs.Prelude.{◌≡◌, true};
 ghost use Rattle.engine_core.specs.ClosingList.{IsAlive};
-ghost use Rattle.fields_core.specs.Common.{AreKept, HasBoard, IsClosedBut, IsClosedIn, IsClosedTo, IsCounted, IsFurther, IsSweep, Layers, Needs, has, needs_of, rules_of};
+ghost use Rattle.fields_core.specs.Common.{AreKept, HasBoard, IsClosedIn, IsClosedTo, IsCounted, IsFurther, IsSweep, Layers, Needs, has, rules_of};
 
 use crate::count::game::CountGame;
 use engine_core::{Closing, Taken};
@@ -19,16 +19,6 @@ pub trait SweepNotes<W: Word, P: CountGame>: Sized {
     /// They are, and each house that does not wait strikes nothing from these planes.
     ghost ready: { P → Layers → Self → Type 0 };
 
-    /// Begins a closing. Where `from` names a cell, the board was closed before that cell lost a value.
-    fn begin(&mut self, planes: &Planes<W>, puzzle: &P, from: Option<usize>)
-        requires fits { fits self.old (needs_of (rules_of (P.counts puzzle.now))) }
-        requires written { written puzzle.now self.old }
-        requires board { HasBoard (rules_of (P.counts puzzle.now)) (P.extent puzzle.now) W.room
-            planes.now }
-        requires closed_but { IsClosedBut (rules_of (P.counts puzzle.now)) (has planes.now) from }
-        ensures ready { ready puzzle.now planes.now self.new }
-        ensures kept { AreKept fits written self.old self.new };
-
     /// Visits each house once that waits, in ascending order, up to one that has no filling. Says whether there is none such.
     fn sweep(&mut self, planes: &mut Planes<W>, puzzle: &P) -> bool
         requires { ready puzzle.now planes.old self.old }
@@ -38,27 +28,23 @@ pub trait SweepNotes<W: Word, P: CountGame>: Sized {
 }
 
 /// Closes the board by sweeps, until one takes nothing or a cell would be left without a value: what board is left then
-/// is open. Those sweeps count that took something, and the one that stopped; one at least. Where `from` names a cell,
-/// the board was closed before that cell lost a value.
+/// is open. Those sweeps count that took something, and the one that stopped; one at least. At first each house waits that
+/// strikes anything.
 pub(crate) fn close<W: Word, P: CountGame, N: SweepNotes<W, P>>(
     notes: &mut N,
     planes: &mut Planes<W>,
     puzzle: &P,
-    from: Option<usize>,
 ) -> Taken
     requires counted { IsCounted (P.counts puzzle.now) }
-    requires fits { N.fits notes.old (needs_of (rules_of (P.counts puzzle.now))) }
-    requires written { N.written puzzle.now notes.old }
     requires board { HasBoard (rules_of (P.counts puzzle.now)) (P.extent puzzle.now) W.room
         planes.old }
-    requires closed_but { IsClosedBut (rules_of (P.counts puzzle.now)) (has planes.old) from }
+    requires ready { N.ready puzzle.now planes.old notes.old }
     ensures taken { IsClosedTo (P.counts puzzle.now) planes.old planes.new result.closing }
     ensures turns { IsClosedIn (rules_of (P.counts puzzle.now)) (has planes.old) result.turns }
     ensures alive { IsAlive (rules_of (P.counts puzzle.now)) (has planes.new) }
     ensures further { IsFurther planes.old planes.new }
     ensures kept { AreKept N.fits N.written notes.old notes.new }
 {
-    notes.begin(planes, puzzle, from);
     let mut sweeps = 0;
     'closing: loop {
         let before = planes.len();

@@ -39,12 +39,9 @@ impl CountGame for TentsPuzzle {
 
     ghost serves = { HasPairingRoom };
 
-    fn copied(&self, alloc: Global) -> Result<TentsPuzzle, AllocError> {
-        self.copy(alloc)
-    }
-
-    fn names(&self, alloc: Global) -> Result<Vec<HouseName<TentHouse>>, AllocError> {
-        names_of_tents(alloc, self)
+    fn parts(&self, alloc: Global) -> Result<(TentsPuzzle, Vec<HouseName<TentHouse>>), AllocError> {
+        let names = names_of_tents(alloc, self)?;
+        Ok((self.copy(alloc)?, names))
     }
 
     fn house(&self, kind: TentHouse, place: usize) -> House {

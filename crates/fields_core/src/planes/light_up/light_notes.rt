@@ -94,7 +94,8 @@ impl<W: Word> PlaneNotes<W, CountRules<LightPuzzle>> for LightNotes<W> {
         _scratch: &mut (),
         from: Option<usize>,
     ) -> Taken {
-        close(self, planes, &rules.puzzle, from)
+        self.waits = LineWaits::begin(planes, &rules.puzzle, from);
+        close(self, planes, &rules.puzzle)
     }
 
     ghost fits_smaller = { λ notes need had fits room.
@@ -110,10 +111,6 @@ impl<W: Word> SweepNotes<W, LightPuzzle> for LightNotes<W> {
     ghost written = { λ p notes. AreLightsWritten W.bits p notes };
 
     ghost ready = { λ p planes notes. AreLightsReady W.bits W.room p planes notes };
-
-    fn begin(&mut self, planes: &Planes<W>, puzzle: &LightPuzzle, from: Option<usize>) {
-        self.waits = LineWaits::begin(planes, puzzle, from);
-    }
 
     fn sweep(&mut self, planes: &mut Planes<W>, puzzle: &LightPuzzle) -> bool {
         self.sweep_numbers(planes, puzzle) && self.sweep_white(planes, puzzle)

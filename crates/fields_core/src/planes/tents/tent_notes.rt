@@ -61,7 +61,8 @@ impl<W: Word> PlaneNotes<W, CountRules<TentsPuzzle>> for TentNotes<W> {
         _scratch: &mut PairingScratch,
         from: Option<usize>,
     ) -> Taken {
-        close(self, planes, &rules.puzzle, from)
+        self.waits = Waits::new(planes, &rules.puzzle, from);
+        close(self, planes, &rules.puzzle)
     }
 
     ghost fits_smaller = { λ _ _ _ _ room. room };
@@ -75,10 +76,6 @@ impl<W: Word> SweepNotes<W, TentsPuzzle> for TentNotes<W> {
     ghost written = { λ p notes. AreTentsWritten W.bits p notes };
 
     ghost ready = { λ p planes notes. AreTentsReady W.bits W.room p planes notes };
-
-    fn begin(&mut self, planes: &Planes<W>, puzzle: &TentsPuzzle, from: Option<usize>) {
-        self.waits = Waits::new(planes, puzzle, from);
-    }
 
     #[inline(always)]
     fn sweep(&mut self, planes: &mut Planes<W>, puzzle: &TentsPuzzle) -> bool {

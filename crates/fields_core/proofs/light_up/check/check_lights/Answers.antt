@@ -1,5 +1,5 @@
 use Rattle.fields_core.proofs.Common.{FailsLight, IsGrid, IsLightFault, IsLightSolution, Light, LightFault, List, None, Option, [], arith, black_right, bulb_right, common_steps, light_cells, light_tests, lit_right, none_exactly, none_right, not, number_right, rules, ℕ, ◌↔◌, ◌∷◌, ◌≡◌}
-use Rattle.fields_core.proofs.RuleLemmas.{IsSearched, all-right, first-wrong}
+use Rattle.fields_core.proofs.RuleLemmas.{IsFirstWrong, all-right, first-wrong}
 use Rattle.fields_core.proofs.LightRuleLemmas.{black, dark, kinds, light-made, light-none, light-sound, number, seen}
 use Rattle.fields_core.proofs.light_up.check.check_lights.Goals as goal
 use Rattle.fields_core.proofs.light_up.check.check_lights.Goals.{After-next_passing, After-next_passing-2, After-next_passing-3, After-next_passing-4}
@@ -9,18 +9,18 @@ told : (p : Light) (g : List ℕ) → IsGrid (light_cells p) 2 g → {fault : Op
     → IsLightFault p g fault × ((fault ≡ None) ↔ IsLightSolution p g)
 told p g fits {fault} is = (is, none_exactly (FailsLight p g) (light_tests p) (light-none p g fits) fault is)
 
-found-black : (c : After-next_passing) → IsSearched (black c.args.puzzle.now c.args.grid.now) c.next_passing.result
+found-black : (c : After-next_passing) → IsFirstWrong (black c.args.puzzle.now c.args.grid.now) c.next_passing.result
 unfolding black_right
 found-black c = rw (c.cells-end.ensures.value, c.size.ensures.value) at (c.next_passing.ensures (λ k. not (black_right c.args.puzzle.now c.args.grid.now k)) (λ d answer lt met. grind (arith, common_steps)))
 
-found-number : (c : After-next_passing-2) → IsSearched (number c.args.puzzle.now c.args.grid.now) c.next_passing-2.result
+found-number : (c : After-next_passing-2) → IsFirstWrong (number c.args.puzzle.now c.args.grid.now) c.next_passing-2.result
 found-number c = rw (c.cells-end.ensures.value, c.size.ensures.value) at (c.next_passing-2.ensures (λ k. not (number_right c.args.puzzle.now c.args.grid.now k)) (λ d answer lt met. search rules))
 
-found-seen : (c : After-next_passing-3) → IsSearched (seen c.args.puzzle.now c.args.grid.now) c.next_passing-3.result
+found-seen : (c : After-next_passing-3) → IsFirstWrong (seen c.args.puzzle.now c.args.grid.now) c.next_passing-3.result
 unfolding bulb_right
 found-seen c = rw (c.cells-end.ensures.value, c.size.ensures.value) at (c.next_passing-3.ensures (λ k. not (bulb_right c.args.puzzle.now c.args.grid.now k)) (λ d answer lt met. grind (arith, common_steps)))
 
-found-dark : (c : After-next_passing-4) → IsSearched (dark c.args.puzzle.now c.args.grid.now) c.next_passing-4.result
+found-dark : (c : After-next_passing-4) → IsFirstWrong (dark c.args.puzzle.now c.args.grid.now) c.next_passing-4.result
 unfolding lit_right
 found-dark c = rw (c.cells-end.ensures.value, c.size.ensures.value) at (c.next_passing-4.ensures (λ k. not (lit_right c.args.puzzle.now c.args.grid.now k)) (λ d answer lt met. grind (arith, common_steps)))
 

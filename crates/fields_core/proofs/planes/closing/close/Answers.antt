@@ -25,8 +25,8 @@ pub closing-init : goal.closing-init
 closing-init g c =
     record {
       sweeps = sweeps-none _ _ _ _ c.requires.board.cells (cells-alive _ c.requires.board.cells c.requires.board.board.alive);
-      ready = c.begin.ensures.ready;
-      kept = c.begin.ensures.kept;
+      ready = c.requires.ready;
+      kept = record { serves = λ needs room. room; own = λ p own. own };
     }
 
 pub overflow_add-result : goal.overflow_add-result

@@ -1,22 +1,22 @@
 use Rattle.fields_core.proofs.Common.{FailsTents, [], arith, column_right, common_steps, first_in, none_right, not, row_right, sym, touch_right, tree_right, ◌∙◌, ◌∷◌}
-use Rattle.fields_core.proofs.RuleLemmas.{IsSearched, all-right, first-wrong}
+use Rattle.fields_core.proofs.RuleLemmas.{IsFirstWrong, all-right, first-wrong}
 use Rattle.fields_core.proofs.TentRuleLemmas.{columns, kinds, match, rows, tents-made, tents-sound, touch, trees}
 use Rattle.fields_core.proofs.tents.check.find_fault.Goals as goal
 use Rattle.fields_core.proofs.tents.check.find_fault.Goals.{After-next_passing, After-next_passing-2, After-next_passing-3, After-next_passing-4}
 
-found-trees : (c : After-next_passing) → IsSearched (trees c.args.puzzle.now c.args.grid.now) c.next_passing.result
+found-trees : (c : After-next_passing) → IsFirstWrong (trees c.args.puzzle.now c.args.grid.now) c.next_passing.result
 unfolding tree_right
 found-trees c = rw (c.cells-end.ensures.value, c.size-size.ensures.value) at (c.next_passing.ensures (λ k. not (tree_right c.args.puzzle.now c.args.grid.now k)) (λ d answer lt met. grind (arith, common_steps)))
 
-found-touch : (c : After-next_passing-2) → IsSearched (touch c.args.puzzle.now c.args.grid.now) c.next_passing-2.result
+found-touch : (c : After-next_passing-2) → IsFirstWrong (touch c.args.puzzle.now c.args.grid.now) c.next_passing-2.result
 unfolding touch_right
 found-touch c = rw (c.cells-end.ensures.value, c.size-size.ensures.value) at (c.next_passing-2.ensures (λ k. not (touch_right c.args.puzzle.now c.args.grid.now k)) (λ d answer lt met. grind (arith, common_steps)))
 
-found-columns : (c : After-next_passing-3) → IsSearched (columns c.args.puzzle.now c.args.grid.now) c.next_passing-3.result
+found-columns : (c : After-next_passing-3) → IsFirstWrong (columns c.args.puzzle.now c.args.grid.now) c.next_passing-3.result
 unfolding column_right
 found-columns c = rw (c.from.ensures, c.w.ensures.value, c.size-size.ensures.value) at (c.next_passing-3.ensures (λ k. not (column_right c.args.puzzle.now c.args.grid.now k)) (λ d answer lt met. grind (arith, common_steps)))
 
-found-rows : (c : After-next_passing-4) → IsSearched (rows c.args.puzzle.now c.args.grid.now) c.next_passing-4.result
+found-rows : (c : After-next_passing-4) → IsFirstWrong (rows c.args.puzzle.now c.args.grid.now) c.next_passing-4.result
 unfolding row_right
 found-rows c = rw (c.from-2.ensures, c.h.ensures.value, c.size-size.ensures.value) at (c.next_passing-4.ensures (λ k. not (row_right c.args.puzzle.now c.args.grid.now k)) (λ d answer lt met. grind (arith, common_steps)))
 
