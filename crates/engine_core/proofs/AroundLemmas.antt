@@ -1,9 +1,9 @@
 -- Closings that go around over the houses that wait, and what they came to.
-use Rattle.engine_core.proofs.Common.{BoardAndMarks, Bool, Candidates, Dead, HasStruck, IsAlive, IsClosedBy, IsClosedIn, IsClosing, IsDead, IsLawful, IsQueuedAround, IsRested, IsTaken, IsWithin, IsWoken, List, Open, RuleSystem, Some, [], after, arith, but, cases_Bool, cases_lt, common_steps, false, from_bool, has, if◌then◌else◌, inl, inr, is_dead, le-ltb, length, lt-ltb, ltb, max, not, refl, suc, sym, take, true, true≢false, within_inside, ℕ, ◌&&◌, ◌*◌, ◌++◌, ◌+◌, ◌-◌, ◌<◌, ◌||◌, ◌∙◌, ◌∷◌, ◌≡◌, ◌≤◌, ◌⊎◌}
+use Rattle.engine_core.proofs.Common.{AreWritten, BoardAndMarks, Bool, Candidates, Dead, HasStruck, IsAlive, IsClosedBy, IsClosedIn, IsClosing, IsDead, IsLawful, IsQueuedAround, IsRested, IsTaken, IsWithin, IsWoken, List, Open, RuleSystem, Some, [], after, ap, arith, but, cases_Bool, cases_lt, common_steps, false, from_bool, has, if◌then◌else◌, inl, inr, is_dead, le-ltb, length, length-append, length-set, lt-ltb, ltb, max, not, refl, set, suc, sweeps_in, sym, take, true, true≢false, visits_in, within_inside, ℕ, ◌&&◌, ◌*◌, ◌++◌, ◌+◌, ◌-◌, ◌<◌, ◌||◌, ◌∙◌, ◌∷◌, ◌≡◌, ◌≤◌, ◌⊎◌}
 use Rattle.engine_core.specs.declared.mode.Closing.{Closing}
 use Rattle.engine_core.specs.declared.mode.Taken.{Taken}
 use Rattle.engine_core.proofs.ClosingLemmas.{replay_inside}
-use Rattle.engine_core.proofs.QueueLemmas.{closed_from_rested}
+use Rattle.engine_core.proofs.QueueLemmas.{closed_from_rested, pushed}
 use Rattle.engine_core.proofs.ListLemmas.{IsRunning, closing-dead, closing-none, closing-open, running-turn}
 use Rattle.engine_core.proofs.SweepLemmas.{IsMarked, IsSweeping, IsSwept, all-marked, few_sweeps, struck-more, struck-none, sweep-idle, sweeping-first, sweeping-inside, sweeping-passed, sweeping-turn, swept-alive, swept-dead, swept-first, swept-idle, swept-shut, swept-turn}
 
@@ -74,6 +74,19 @@ steps-fall {bound = bound} {houses = houses} {from = from} {h = h} turns more ne
 pub record IsQueued (p : RuleSystem) (K0 : Candidates) (t : List ℕ) (K : Candidates) (waits : ℕ → Bool) (dead : Bool) : Type 0 where
   pub running : dead ≡ false → IsRunning p K0 t K waits
   pub ended : dead ≡ true → IsClosing p K0 K Dead t 0
+
+-- these are its visits so far, written down if there is room for them
+pub record IsQueuedBy (p : RuleSystem) (K0 : Candidates) (turns : ℕ) (trace : List ℕ) (K : Candidates) (waits : ℕ → Bool) (dead : Bool) : Type 0 where
+  pub visits : List ℕ
+  pub many : length visits ≡ turns
+  pub written : AreWritten visits trace
+  pub queued : IsQueued p K0 visits K waits dead
+
+written-more : (t trace : List ℕ) (h : ℕ) → AreWritten t trace → AreWritten (t ++ h ∷ []) (set trace (length t) h)
+written-more t trace h written fits =
+    let many = length-append t (h ∷ []) in
+    let lt : length t < length trace = omega (arith, fits, many, length-set trace (length t) h) in
+    rw (many, pushed trace h lt, written (omega (arith, lt))) refl
 
 -- and whether the sweep struck anything so far
 pub record IsStriking (p : RuleSystem) (K0 : Candidates) (n from : ℕ) (K : Candidates) (waits : ℕ → Bool) (struck : Bool) : Type 0 where
@@ -151,13 +164,22 @@ module _ (p : RuleSystem) (laws : IsLawful p) (K0 : Candidates) (within : IsWith
       let all = amid-whole s past (λ h le lt. none h lt) in
       rw s.told (swept-shut p laws s.whole first K sweeps within s.swept all.left alive (closed_from_rested p K waits none all.rested))
 
-  pub queued-turn : {t : List ℕ} {K : Candidates} {waits : ℕ → Bool} → IsRunning p K0 t K waits → {h : ℕ} (K' : Candidates) {waits' : ℕ → Bool}
+  pub queued-turn : {turns : ℕ} {trace : List ℕ} {K : Candidates} {waits : ℕ → Bool} {off : Bool} → IsQueuedBy p K0 turns trace K waits off
+      → off ≡ false → {h : ℕ} (K' : Candidates) {waits' : ℕ → Bool}
       (dead : Bool) → p.by_queue ≡ true → IsWithin p.cells p.values K → h < p.houses → waits h ≡ true → K' ≡ after p h K
-      → IsWoken p h K K' waits waits' → is_dead p.cells p.values K' ≡ dead → IsQueued p K0 (t ++ h ∷ []) K' waits' dead
-  queued-turn {t} {K} {waits} r {h} K' {waits'} dead queue fits lt waiting e woke is = record {
-    running = λ off. running-turn p laws K0 t K K' waits waits' h r lt waiting fits e woke (is ∙ off);
-    ended = λ on. closing-dead p laws K0 t K K' waits h queue within r lt waiting e (is ∙ on);
-  }
+      → IsWoken p h K K' waits waits' → is_dead p.cells p.values K' ≡ dead → IsQueuedBy p K0 (turns + 1) (set trace turns h) K' waits' dead
+  queued-turn {trace = trace} {K = K} {waits = waits} q alive {h} K' {waits'} dead queue fits lt waiting e woke is =
+      let t = q.visits in
+      let r = q.queued.running alive in
+      record {
+        visits = t ++ h ∷ [];
+        many = length-append t (h ∷ []) ∙ ap (λ n. n + 1) q.many;
+        written = rw q.many at (written-more t trace h q.written);
+        queued = record {
+          running = λ off. running-turn p laws K0 t K K' waits waits' h r lt waiting fits e woke (is ∙ off);
+          ended = λ on. closing-dead p laws K0 t K K' waits h queue within r lt waiting e (is ∙ on);
+        };
+      }
 
   pub striking-next : {n from h : ℕ} {K : Candidates} {waits : ℕ → Bool} {struck : Bool} → IsStriking p K0 n from K waits struck → from ≤ p.houses
       → (more : ℕ) → (h < from → IsAlive p K) → IsQueuedAround waits p.houses from (Some h) → more ≡ from_bool (ltb h from)
@@ -198,7 +220,7 @@ module _ (p : RuleSystem) (laws : IsLawful p) (K0 : Candidates) (within : IsWith
 
   -- the answer of a closing whose turns are visits of a queue, or else sweeps
   pub exact-end : {turns from : ℕ} {waits : ℕ → Bool} (queue struck dead : Bool) (closer : BoardAndMarks) (taken : Taken) → p.by_queue ≡ queue
-      → (p.by_queue ≡ true → (turns ≤ length closer.trace) × IsQueued p K0 (take turns closer.trace) (has closer.board) waits dead)
+      → (p.by_queue ≡ true → IsQueuedBy p K0 turns closer.trace (has closer.board) waits dead)
       → (p.by_queue ≡ false → IsStriking p K0 turns from (has closer.board) waits struck)
       → from ≤ p.houses → is_dead p.cells p.values (has closer.board) ≡ dead
       → (dead ≡ true → p.by_queue ≡ false → (h : ℕ) → from ≤ h → h < p.houses → waits h ≡ false)
@@ -207,16 +229,44 @@ module _ (p : RuleSystem) (laws : IsLawful p) (K0 : Candidates) (within : IsWith
       → taken.turns ≡ (if queue then turns else max (turns - from_bool (not struck)) 1)
       → IsClosedBy p queue K0 taken closer
   exact-end true struck true closer taken e queued striking past is rest none answer told =
-      record { closing = rw (answer, told) ((queued e).1.ended refl); visits = rw told (queued e).0 }
-  exact-end {waits = waits} true struck false closer taken e queued striking past is rest none answer told = record {
-    closing = rw (answer, told) (closing-open p laws K0 _ (has closer.board) waits e within ((queued e).1.running refl) (none refl));
-    visits = rw told (queued e).0;
+      let q = queued e in
+      record { visits = q.visits; closing = rw answer (q.queued.ended refl); many = q.many ∙ sym told; written = q.written }
+  exact-end {waits = waits} true struck false closer taken e queued striking past is rest none answer told =
+      let q = queued e in
+      record {
+        visits = q.visits;
+        closing = rw answer (closing-open p laws K0 _ (has closer.board) waits e within (q.queued.running refl) (none refl));
+        many = q.many ∙ sym told;
+        written = q.written;
+      }
+  exact-end false struck dead closer taken e queued striking past is rest none answer told = record {
+    visits = [];
+    closing = rw (answer, told) (striking-end struck dead (striking e) past e is (λ on. rest on e) none);
+    many = refl;
+    written = λ _. refl;
   }
-  exact-end false struck dead closer taken e queued striking past is rest none answer told =
-      record { closing = rw (answer, told) (striking-end struck dead (striking e) past e is (λ on. rest on e) none); visits = omega arith }
 
 -- a board that is dead already
 pub closed-none : {p : RuleSystem} (laws : IsLawful p) (queue : Bool) (closer : BoardAndMarks) → IsWithin p.cells p.values (has closer.board)
     → IsDead p (has closer.board) → IsClosedBy p queue (has closer.board) (record { closing = Dead; turns = 0 }) closer
-closed-none {p} laws true closer within dead = record { closing = closing-none p laws (has closer.board) within dead; visits = omega arith }
-closed-none {p} laws false closer within dead = record { closing = closing-none p laws (has closer.board) within dead; visits = omega arith }
+closed-none {p} laws true closer within dead =
+    record { visits = []; closing = closing-none p laws (has closer.board) within dead; many = refl; written = λ _. refl }
+closed-none {p} laws false closer within dead =
+    record { visits = []; closing = closing-none p laws (has closer.board) within dead; many = refl; written = λ _. refl }
+
+-- so many turns are those of some closing
+pub turns-told : {p : RuleSystem} {K : Candidates} {taken : Taken} (queue : Bool) (closer : BoardAndMarks) → p.by_queue ≡ queue
+    → IsClosedBy p queue K taken closer → IsClosedIn p K taken.turns
+turns-told {taken} true closer e c =
+    closed-in c.closing (λ _. c.many) (λ off. absurd (true≢false (sym e ∙ off)))
+turns-told false closer e c = closed-in c.closing (λ on. absurd (true≢false (sym on ∙ e))) (λ _. refl)
+
+-- where there is room for all visits of a closing, they are written down
+pub closing-written : {p : RuleSystem} {K : Candidates} {taken : Taken} (queue : Bool) (closer : BoardAndMarks) → p.by_queue ≡ queue
+    → (queue ≡ true → p.bound ≤ length closer.trace) → IsClosedBy p queue K taken closer
+    → (visits_in queue taken.turns ≤ length closer.trace)
+    × IsClosing p K (has closer.board) taken.closing (take (visits_in queue taken.turns) closer.trace) (sweeps_in queue taken.turns)
+closing-written true closer e room c =
+    let fits : length c.visits ≤ length closer.trace = omega (arith, (c.closing.by_visits e).1.few, room refl) in
+    (omega (arith, fits, c.many), rw (← c.many, c.written fits) c.closing)
+closing-written false closer e room c = (omega arith, rw (c.closing.by_sweeps e).2 at c.closing)

@@ -42,7 +42,7 @@ unfoldable pub use Rattle.grid_core.specs.Candidates.{any_below, better, count_b
 unfoldable pub use Rattle.grid_core.specs.Candidates.{total, with_set, without}
 pub use Rattle.grid_core.specs.Pieces.{AreEnds, last_end, pieces}
 unfoldable pub use Rattle.grid_core.specs.Regions.{step}
-pub use Rattle.engine_core.specs.Closer.{BoardAndMarks, IsClosedBy, SameRoom}
+pub use Rattle.engine_core.specs.Closer.{AreWritten, BoardAndMarks, IsClosedBy, SameRoom, sweeps_in, visits_in}
 pub use Rattle.engine_core.specs.Closing.{HasStruck}
 unfoldable pub use Rattle.engine_core.specs.Closing.{closure, replay, round, rounds, sweeps_of}
 pub use Rattle.engine_core.specs.ClosingList.{HasHouseLost, IsAlive, IsCalledFor, IsCalledNext, IsClosing, IsClosingList, IsClosingSweeps, IsDead, Reaches}

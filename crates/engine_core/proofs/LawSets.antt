@@ -42,10 +42,10 @@ pub ruleset visit_laws = (kept-first, kept-inside, kept-more, striking-first, st
 
 pub ruleset trail_laws = (trail-none, total-bound, put_back-none)
 
-pub ruleset judge_laws = (grid-fits, grid-long)
+pub ruleset cell_laws = (grid-fits, grid-long, pick-more, pick-ends)
 
 pub ruleset plane_position_laws = (step-onward, step-walks)
 
-pub ruleset position_laws = (grid-fits, grid-long, pick-more, pick-ends)
+pub ruleset position_laws = (grid-fits, grid-long)
 
 pub ruleset store_laws = (settled-dead)

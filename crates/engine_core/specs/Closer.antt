@@ -18,13 +18,12 @@ pub record BoardAndMarks : Type 0 where
   pub trace : List ℕ
 
 -- the lists are as long as that wants, and the board is as large
-pub record IsCloserOf (by_queue : Bool) (made : Needs) (board : Layout)
-    (sets waits trace : List ℕ) : Type 0 where
+pub record IsCloserOf (made : Needs) (board : Layout) (sets waits : List ℕ) : Type 0 where
   pub board_cells : cells_of board ≡ made.cells
   pub board_values : board.values ≡ made.values
   pub sets_long : length sets ≡ made.scope
   pub waits_long : length waits ≡ words_of made.houses
-  pub trace_long : length trace ≡ (if by_queue then made.bound else 0)
+  pub few_turns : made.bound < 18446744073709551616
 
 -- of so many turns of a closing, those that are visits of a queue, and those that are sweeps
 abbrev pub visits_in : Bool → ℕ → ℕ
@@ -33,12 +32,18 @@ visits_in by_queue turns = if by_queue then turns else 0
 abbrev pub sweeps_in : Bool → ℕ → ℕ
 sweeps_in by_queue turns = if by_queue then 0 else turns
 
--- what a closing of the board K came to, after so many turns
+-- the list begins with these visits, if it has room for them
+abbrev pub AreWritten : List ℕ → List ℕ → Type 0
+AreWritten visits trace = length visits ≤ length trace → take (length visits) trace ≡ visits
+
+-- what a closing of the board K came to after so many turns: in a queue these are its visits
 pub record IsClosedBy (p : RuleSystem) (by_queue : Bool) (K : Candidates) (taken : Taken)
     (closer : BoardAndMarks) : Type 0 where
-  pub closing : IsClosing p K (has closer.board) taken.closing
-      (take (visits_in by_queue taken.turns) closer.trace) (sweeps_in by_queue taken.turns)
-  pub visits : visits_in by_queue taken.turns ≤ length closer.trace
+  pub visits : List ℕ
+  pub closing : IsClosing p K (has closer.board) taken.closing visits
+      (sweeps_in by_queue taken.turns)
+  pub many : length visits ≡ visits_in by_queue taken.turns
+  pub written : AreWritten visits closer.trace
 
 -- the same from a board to the one that is left
 abbrev pub IsClosedFrom : RuleSystem → Bool → BoardAndMarks → Taken → BoardAndMarks → Type 0

@@ -5,7 +5,7 @@ unfoldable pub use Rattle.grid_core.specs.Board.{has}
 pub use Rattle.grid_core.specs.Candidates.{Candidates, IsInside, max_cells, max_values}
 unfoldable pub use Rattle.grid_core.specs.Candidates.{better, count_below, grid_of, is_full, only, pick}
 pub use Rattle.grid_core.specs.Pieces.{last_end}
-pub use Rattle.engine_core.specs.Closer.{AllWait, AreCalled, AreWokenAfter, BoardAndMarks, IsClosedFrom, IsCloserOf, IsVisited, SameRoom, sweeps_in, visits_in}
+pub use Rattle.engine_core.specs.Closer.{AllWait, AreCalled, AreWokenAfter, AreWritten, BoardAndMarks, IsClosedBy, IsClosedFrom, IsCloserOf, IsVisited, SameRoom, sweeps_in, visits_in}
 pub use Rattle.engine_core.specs.Closing.{HasLargestClosed, HasStruck}
 pub use Rattle.engine_core.specs.ClosingList.{IsAlive, IsDeadAfter}
 pub use Rattle.engine_core.specs.Counts.{IsClosedIn, IsTurns, boards_met}
@@ -18,7 +18,7 @@ pub use Rattle.engine_core.specs.Keeping.{AreHeadSets, AreSets, AreSetsOf, HasSe
 pub use Rattle.engine_core.specs.HouseList.{AreScopesOf, listed_visits, table_of}
 pub use Rattle.engine_core.specs.Mode.{is_queue}
 pub use Rattle.engine_core.specs.Needs.{needs_in}
-pub use Rattle.engine_core.specs.Position.{IsClosedBut, IsFull, IsOnward, IsReturned, IsTaken, IsTakenTo, Room, Standing, is_solved, most_changes, own_grid}
+pub use Rattle.engine_core.specs.Position.{IsClosedAround, IsClosedBut, IsFull, IsOnward, IsReturned, IsTaken, IsTakenTo, Room, Standing, is_solved, most_changes, own_grid}
 pub use Rattle.engine_core.specs.Queue.{IsQueuedAround, IsRested, is_dead_in}
 unfoldable pub use Rattle.engine_core.specs.Queue.{but}
 pub use Rattle.engine_core.specs.RuleSystem.{AreEnoughSweeps, AreEnoughVisits, FitsIn, IsBoardOf, IsClosed, IsClosedGrid, IsGridOf, IsLawful, IsNext, IsNextAt, Needs, RuleSystem, most_visits, needs_of}
@@ -28,7 +28,7 @@ unfoldable pub use Rattle.engine_core.specs.Sets.{set_of_bits}
 pub use Rattle.engine_core.specs.Stored.{IsClosingOf, IsAnswerOf, IsUnsearched, Stored, is_settled, sizes_of}
 pub use Rattle.engine_core.specs.Trail.{KeepsChanges, IsTrailBack, IsTrailLonger, IsHouseStruck, IsTrail, Trail, back_at, change_at}
 unfoldable pub use Rattle.engine_core.specs.Trail.{left_by}
-pub use Rattle.engine_core.specs.Trail.{AreHousesRested, AreRestedBut, AreWokenSince, GoesOn, IsAlong, IsPlaced, IsStep, IsTrailUnderWay, Placed, board_in, standing_of}
+pub use Rattle.engine_core.specs.Trail.{AreHousesRested, AreRestedBut, AreWokenSince, GoesOn, IsAlong, IsPlaced, IsPlainPlaced, IsStep, IsTrailUnderWay, Placed, board_in, standing_of}
 pub use Rattle.engine_core.specs.Verdict.{HasTwo, IsTrueOf, Solves, said_by_counts, spent_by_counts, spent_of, tried_of, verdict_of}
 unfoldable pub use Rattle.engine_core.specs.Verdict.{outcome, spent, trials_in, tried}
 pub use Rattle.engine_core.specs.Sets.{AreWokenAt, words_of}

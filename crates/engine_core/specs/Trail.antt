@@ -105,6 +105,11 @@ pub record IsPlaced (made : Needs) (board : Layout) (sets kept waits first : Lis
   pub first_long : length first ≡ words_of made.houses
   pub few_turns : made.bound < 18446744073709551616
 
+-- the same of a board that is closed by plain visits
+pub record IsPlainPlaced (made : Needs) (board : Layout) : Type 0 where
+  pub board_cells : cells_of board ≡ made.cells
+  pub board_values : board.values ≡ made.values
+
 abbrev pub board_in : Placed → Candidates
 board_in s = has s.trail.board
 

@@ -47,7 +47,7 @@ impl<S: RuleSet> HouseRules<S> {
             cells,
             values,
         } = S::parts(alloc, puzzle)?;
-        let table = HouseTable::of(alloc, cells, houses)?;
+        let table = HouseTable::of(alloc, cells, houses.freeze())?;
         Ok(HouseRules { set, table, values })
     }
 

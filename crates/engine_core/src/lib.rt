@@ -16,7 +16,7 @@ mod trail;
 mod waits;
 
 pub use house_rules::{HouseRules, HouseScratch};
-pub use houses::list::HouseList;
+pub use houses::list::{FrozenList, HouseList};
 pub use houses::visit::{apply, gather, has_bit};
 pub use laws::trials_made_are_the_first;
 pub use mode::{Closing, Mode, Taken};
@@ -28,5 +28,5 @@ pub use rules::Rules;
 pub use search::position::{Position, Searchable};
 pub use search::walk::Verdict;
 pub use store::{Sizes, Store};
+pub use trail::plain::PlainPosition;
 pub use trail::position::TrailPosition;
-pub use waits::enqueue;

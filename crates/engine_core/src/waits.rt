@@ -5,7 +5,7 @@ ghost use Rattle.std.specs.Prelude.{◌&&◌, ◌/◌, ◌<◌, ◌==◌, ◌||�
 ghost use Rattle.engine_core.specs.Common.{IsNext, but, IsQueuedAround, words_of, is_waiting, has_bit as is_set};
 
 /// Marks the house in the bits of those that wait.
-pub fn enqueue(waits: &mut [u64], house: usize)
+pub(crate) fn enqueue(waits: &mut [u64], house: usize)
     requires { house / 64 < length waits.old }
     ensures { (j : ℕ) → is_waiting waits.new j ≡ (is_waiting waits.old j || (j == house)) }
 {

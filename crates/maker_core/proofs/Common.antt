@@ -112,7 +112,7 @@ unfoldable pub use Rattle.maker_core.specs.Draws.{black_cells, stream_after}
 pub use Rattle.maker_core.specs.SoloFilling.{flipped_from, line_from}
 unfoldable pub use Rattle.maker_core.specs.SoloFilling.{flipped}
 pub use Rattle.maker_core.specs.LightMaking.{light_game}
-pub use Rattle.maker_core.specs.LightCluesLaws.{light_is_game, lit_by_fewer, numbered_is}
+pub use Rattle.maker_core.specs.LightCluesLaws.{light_is_game, lights_by_fewer, numbered_is}
 pub use Rattle.maker_core.specs.LightMaking.{IsLit, numbered_cell, with_bulb}
 unfoldable pub use Rattle.maker_core.specs.LightMaking.{bulbs_after, light_filling, light_puzzle_of, lights_of, white_places, with_numbers}
 pub use Rattle.maker_core.specs.Made.{HasOne, IsOnlySolution, TellsOne, has_one, is_one}

@@ -24,9 +24,17 @@ pub free_all : (size : Extent) (filling : TentFilling) (c : ℕ) {n : ℕ} {plac
 unfolding free_cells_beside
 free_all size filling c is all = grind (arith, common_steps)
 
-pub free_few : (size : Extent) (filling : TentFilling) (c : ℕ) → length (free_cells_beside size filling c) ≤ 4
+-- of the first n sides at most n are free
+pub free_few : (size : Extent) (filling : TentFilling) (c n : ℕ) → length (filter (is_free filling) (steps size c n)) ≤ n
+free_few size filling c n = omega (arith, filter-few (is_free filling) (steps size c n), steps-few size c n)
+
+pub free_room : (size : Extent) (filling : TentFilling) (c : ℕ) {n : ℕ} {places : List ℕ}
+    → places ≡ filter (is_free filling) (steps size c n) → n < 4 → length places < 4
+free_room size filling c {n} is lt = rw is (omega (arith, free_few size filling c n))
+
+pub beside_few : (size : Extent) (filling : TentFilling) (c : ℕ) → length (free_cells_beside size filling c) ≤ 4
 unfolding free_cells_beside
-free_few size filling c = grind (arith, common_steps, filter-few, steps-few)
+beside_few size filling c = free_few size filling c 4
 
 pub free_place : (size : Extent) (filling : TentFilling) (c t : ℕ) → has_place (free_cells_beside size filling c) t ≡ true
     → (has_place (steps size c 4) t ≡ true) × (is_free filling t ≡ true)
@@ -71,10 +79,10 @@ unfolding no_tents
 no_tents_is size n cells is_trees is_tents = rw (is_trees, is_tents, cells) refl
 
 -- the four sides of a cell, as the listing of free cells cites them
-pub ruleset sides = (step-none, step-skip, step-keep)
+pub ruleset sides = (step-none, step-skip, step-keep, free_room)
 
 -- what the placing of a tent cites
-pub ruleset place_laws = (free_few, free_in, placed_is)
+pub ruleset place_laws = (beside_few, free_in, placed_is)
 
 -- what the first k cells of the order made
 pub record IsFillingAfter (size : Extent) (order : List ℕ) (k : ℕ) (filling : TentFilling) : Type 0 where
@@ -231,7 +239,7 @@ place_takes : (size : Extent) {filling : TentFilling} (c : ℕ) (s : Stream) →
     → IsTakenBy size filling c (place_tent size filling c s)
 place_takes size {filling} c s may words =
     let free = free_cells_beside size filling c in
-    let few = free_few size filling c in
+    let few = beside_few size filling c in
     let drawn = draw_is (length free) s (grind arith) (omega arith) words in
     record { taken = inr (placed_is free refl drawn.below may refl refl); words = drawn.words }
 

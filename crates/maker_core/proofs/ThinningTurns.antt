@@ -1,5 +1,5 @@
 -- Clues that are tried, and those that are needed.
-use Rattle.maker_core.proofs.Common.{All, All-cons, All-contains, All-nil, AreReasons, Bool, Budget, CluedGame, Contains, Contains-append_right, Contains-permutation, FitsIn, HasOne, HasTwo, IsAnswer, IsAsked, IsDistinct, IsDistinct-IsPermutation, IsGame, IsLeft, IsOnly, IsPermutation, IsPermutation-sym, IsReason, IsThinnedFrom, IsThinning, IsTold, IsTrueOf, IsVerdict, Kept, LeavesNoIdleClue, List, Needed, Needs, None, Option, Outcome, RuleSystem, Some, TellsOne, Why, [], add-one, ap, append-nil, arith, cases_eq, clue_is, clue_places, common_steps, distinct_filtered_range, drop, drop-cons, eqb, false, filter, filter_passes, get_or, get_or-map, get_or-replicate, get_or-set_at, get_or-set_other, get_or_past, has_clue, inl, inr, is_some, length, length-map, length-replicate, length-set, length-take, lit_by_fewer, map, nat_eq_equiv, needs_of, numbered_is, outcome, range_with_len, reasons_from, refl, replicate, set, solved_by_fewer, subst, suc, sym, take, true, true≢false, walk, zero, ℕ, ◌++◌, ◌+◌, ◌<◌, ◌∙◌, ◌∷◌, ◌≡◌, ◌≢◌, ◌≤◌, ◌⊎◌}
+use Rattle.maker_core.proofs.Common.{All, All-cons, All-contains, All-nil, AreReasons, Bool, Budget, CluedGame, Contains, Contains-append_right, Contains-permutation, FitsIn, HasOne, HasTwo, IsAnswer, IsAsked, IsDistinct, IsDistinct-IsPermutation, IsGame, IsLeft, IsOnly, IsPermutation, IsPermutation-sym, IsReason, IsThinnedFrom, IsThinning, IsTold, IsTrueOf, IsVerdict, Kept, LeavesNoIdleClue, List, Needed, Needs, None, Option, Outcome, RuleSystem, Some, TellsOne, Why, [], add-one, ap, append-nil, arith, cases_eq, clue_is, clue_places, common_steps, distinct_filtered_range, drop, drop-cons, eqb, false, filter, filter_passes, get_or, get_or-map, get_or-replicate, get_or-set_at, get_or-set_other, get_or_past, has_clue, inl, inr, is_some, length, length-map, length-replicate, length-set, length-take, lights_by_fewer, map, nat_eq_equiv, needs_of, numbered_is, outcome, range_with_len, reasons_from, refl, replicate, set, solved_by_fewer, subst, suc, sym, take, true, true≢false, walk, zero, ℕ, ◌++◌, ◌+◌, ◌<◌, ◌∙◌, ◌∷◌, ◌≡◌, ◌≢◌, ◌≤◌, ◌⊎◌}
 use Rattle.engine_core.specs.declared.search.walk.Verdict.TheVariants as verdict
 use Rattle.maker_core.proofs.WrittenGrids.{head_apart, passes_kept, set_back}
 
@@ -264,4 +264,4 @@ none_is_idle {game} laws budget all p q kept place reasons needed w has lacks =
 -- what the taking away of clues cites, and that fewer clues lose no solution
 pub ruleset clue_laws = (set_back, clue_is, numbered_is)
 
-pub ruleset fewer_laws = (solved_by_fewer, lit_by_fewer)
+pub ruleset fewer_laws = (solved_by_fewer, lights_by_fewer)

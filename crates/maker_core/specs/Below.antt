@@ -28,6 +28,7 @@ unfoldable pub use Rattle.solo_core.specs.Solutions.{is_solo_solution}
 pub use Rattle.fields_core.specs.Light.{bulb, bulbs_beside, is_white, light_cells, number_is}
 unfoldable pub use Rattle.fields_core.specs.Light.{black_right, bulb_right, joined_in_column, joined_in_row, lit_right, number_right, sees, sees_bulb}
 unfoldable pub use Rattle.fields_core.specs.Light.{solves_lights, white}
+pub use Rattle.fields_core.specs.LightSolutions.{IsLightSolution}
 pub use Rattle.fields_core.specs.LightHouses.{column_house, light_rules, lit_house, number_house, numbered, row_house}
 unfoldable pub use Rattle.fields_core.specs.LightHouses.{begins_column_run, begins_row_run, column_run, light_houses, row_run, seen_from}
 pub use Rattle.fields_core.specs.TentHouses.{tent_rules}

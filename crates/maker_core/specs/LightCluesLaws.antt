@@ -1,6 +1,7 @@
 -- Light Up with fewer numbers: lists from which some houses are left out, and what fewer numbers change.
-use Rattle.maker_core.specs.Below.{Black, Extent, Light, LightCell, Numbered, Solves, White, all_below-at, all_below-from, begins_column_run, begins_row_run, beside, black_right, bulb_right, cases_eq, cases_lt, column_house, column_run, common_steps, filter, get_or-set_other, get_or-set_same, get_or_past, is_white, joined_in_column, joined_in_row, le_refl, length-append, length-map, length-set, light_houses, light_rules, lit_house, lit_right, longest, max-le, number_house, number_is, number_right, numbered, row_house, row_run, seen_from, sees, sees_bulb, slice_index_or, slice_set, solves_lights, white}
-use Rattle.std.proofs.Common.{List, Some, [], ap, arith, false, get_or, inl, inr, length, map, refl, set, subst, suc, sym, true, zero, ℕ, ◌++◌, ◌<◌, ◌∷◌, ◌∙◌, ◌≡◌, ◌≢◌, ◌≤◌, ◌⊎◌}
+use Rattle.maker_core.specs.Below.{Black, Extent, IsGrid, IsLightSolution, Light, LightCell, Numbered, Solves, White, all_below-at, all_below-from, begins_column_run, begins_row_run, beside, black_right, bulb_right, cases_eq, cases_lt, column_house, column_run, common_steps, filter, get_or-set_other, get_or-set_same, get_or_past, is_white, joined_in_column, joined_in_row, le_refl, length-append, length-map, length-set, light_houses, light_rules, lit_house, lit_right, longest, max-le, number_house, number_is, number_right, numbered, row_house, row_run, seen_from, sees, sees_bulb, slice_index_or, slice_set, solves_lights, white}
+use Rattle.fields_core.proofs.LightRuleLemmas.{rule-from-test, test-from-rule}
+use Rattle.std.proofs.Common.{List, Some, [], ap, arith, false, get_or, inl, inr, length, map, refl, set, subst, suc, sym, true, zero, ℕ, ◌*◌, ◌++◌, ◌<◌, ◌∷◌, ◌∙◌, ◌≡◌, ◌≢◌, ◌≤◌, ◌⊎◌}
 use Rattle.engine_core.proofs.JudgeLemmas.{scope_le-longest}
 use Rattle.fields_core.specs.CountHouse.{CountHouse, count_house_of, houses_below, no_count_house}
 use Rattle.fields_core.proofs.HouseLemmas.{all-append, all-at}
@@ -106,8 +107,12 @@ lit_stays p cells g same clues lit =
     whites c = ap (λ wh. wh c) (same_white p (with_cells p.size cells) same)
 
 -- each solution of a puzzle with more numbers is one of the puzzle
-pub lit_by_fewer : (p q : Light) (g : List ℕ) → IsThinnedFrom light_game p q → solves_lights q g ≡ true → solves_lights p g ≡ true
+lit_by_fewer : (p q : Light) (g : List ℕ) → IsThinnedFrom light_game p q → solves_lights q g ≡ true → solves_lights p g ≡ true
 lit_by_fewer p q g w lit = lit_stays p q.cells g w.frame.black w.clues (subst (λ x. solves_lights x g ≡ true) (resized w.frame) lit)
+
+pub lights_by_fewer : (p q : Light) (g : List ℕ) → IsThinnedFrom light_game p q → IsLightSolution q g → IsLightSolution p g
+lights_by_fewer p q g w s = rule-from-test p g (subst (λ size. IsGrid (size.w * size.h) 2 g) (sym w.frame.size) s.grid)
+    (lit_by_fewer p q g w (test-from-rule q g s.grid s))
 
 solutions_stay : (p q : Light) (g : List ℕ) → IsThinnedFrom light_game p q → Solves (light_rules q) g → Solves (light_rules p) g
 unfolding with_cells

@@ -1,7 +1,7 @@
 //! What fewer clues change, and what fillings are. These calls do nothing: their contracts are the laws.
 
-ghost use Rattle.std.specs.Prelude.{◌≡◌, ◌*◌, true};
-ghost use Rattle.maker_core.specs.Below.{IsGrid, IsSoloSolution, solves_lights};
+ghost use Rattle.std.specs.Prelude.{◌*◌};
+ghost use Rattle.maker_core.specs.Below.{IsGrid, IsLightSolution, IsSoloSolution};
 ghost use Rattle.maker_core.specs.TentMaking.{EachFilling, IsSolvedFilling};
 ghost use Rattle.maker_core.specs.Thinning.{KeepsSolutions, LeavesNoIdleClue};
 ghost use Rattle.maker_core.specs.SoloMaking.{solo_game};
@@ -11,7 +11,7 @@ ghost use Rattle.maker_core.specs.LightMaking.{light_game};
 #[tactic(auto, using(crate::proofs::ThinningTurns::fewer_laws))]
 pub fn fewer_clues_keep_solutions()
     ensures solo { KeepsSolutions solo_game IsSoloSolution }
-    ensures lights { KeepsSolutions light_game (λ p g. solves_lights p g ≡ true) }
+    ensures lights { KeepsSolutions light_game IsLightSolution }
 {}
 
 /// If each clue that was left in a puzzle is needed, the puzzle has two solutions once any of them are taken away.

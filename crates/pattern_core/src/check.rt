@@ -1,8 +1,8 @@
 //! The check of a grid.
 
-ghost use Rattle.std.specs.Prelude.{◌*◌};
+ghost use Rattle.std.specs.Prelude.{◌*◌, ◌↔◌, ◌≡◌, None};
 ghost use Rattle.grid_core.specs.Grids.{IsGrid};
-ghost use Rattle.pattern_core.specs.Solutions.{IsPatternFault};
+ghost use Rattle.pattern_core.specs.Solutions.{IsPatternFault, IsPatternSolution};
 
 use crate::fault::PatternFault;
 use crate::line_clue::LineClue;
@@ -14,8 +14,17 @@ use grid_core::{Grid, line_count};
 ///
 /// The rule is that of the manual of Simon Tatham's Portable Puzzle Collection, "Pattern": the numbers beside a line
 /// are the lengths of its runs of consecutive black squares, in order.
-#[tactic(auto, using(crate::proofs::FaultLemmas::fault_laws))]
 pub fn check_pattern(puzzle: &PatternPuzzle, grid: &Grid) -> Option<PatternFault>
+    requires { IsGrid (puzzle.now.size.w * puzzle.now.size.h) 2 grid.now }
+    ensures fault { IsPatternFault puzzle.now grid.now result }
+    ensures solution { (result ≡ None) ↔ IsPatternSolution puzzle.now grid.now }
+{
+    first_fault(puzzle, grid)
+}
+
+/// The same, without what it says of solutions.
+#[tactic(auto, using(crate::proofs::FaultLemmas::fault_laws))]
+fn first_fault(puzzle: &PatternPuzzle, grid: &Grid) -> Option<PatternFault>
     requires { IsGrid (puzzle.now.size.w * puzzle.now.size.h) 2 grid.now }
     ensures { IsPatternFault puzzle.now grid.now result }
 {

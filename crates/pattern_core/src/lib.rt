@@ -6,6 +6,7 @@ mod fault;
 pub mod laws;
 mod line_cells;
 mod line_clue;
+mod line_scratch;
 mod lines;
 mod meets;
 mod planes;
@@ -15,4 +16,5 @@ mod track;
 
 pub use check::check_pattern;
 pub use fault::PatternFault;
-pub use lines::{LineScratch, PatternLines};
+pub use line_scratch::LineScratch;
+pub use lines::PatternLines;

@@ -9,8 +9,9 @@ ghost use Rattle.pattern_core.specs.Lines.{clue_of};
 ghost use Rattle.pattern_core.specs.LinePlanes.{IsIdleAtStart};
 ghost use Rattle.pattern_core.specs.LineRules.{line_rules, numbers_in};
 
-use crate::line_cells::write_places;
-use crate::line_clue::{LONGEST, LineClue, Rows};
+use crate::line_cells::places_of;
+use crate::line_clue::{LONGEST, LineClue};
+use crate::line_scratch::LineScratch;
 use crate::planes::filter::filter_sets;
 use engine_core::{Mode, Rules, apply, gather};
 use gameid_core::PatternPuzzle;
@@ -40,12 +41,6 @@ impl Model for PatternLines {
     ghost view = { λ r. record { pattern = pattern_of r.size r.clues.items; extent = r.extent } };
 
     ghost invariant = { λ r. IsPattern (pattern_of r.size r.clues.items) };
-}
-
-/// What a visit of a line works in.
-#[derive(Drop)]
-pub struct LineScratch {
-    pub(crate) rows: Box<Rows>,
 }
 
 impl PatternLines {
@@ -165,19 +160,16 @@ impl Rules for PatternLines {
     }
 
     fn scratch(&self, alloc: Global) -> Result<LineScratch, AllocError> {
-        Ok(LineScratch {
-            rows: Box::new(alloc, Rows::new())?,
-        })
+        LineScratch::new(alloc)
     }
 
     fn visit(&self, house: usize, board: &mut Board, scratch: &mut LineScratch) -> bool {
-        let size = self.size();
-        let cells = line_len(size, house);
-        let (mut places, mut sets) = ([0; LONGEST], [0; LONGEST]);
-        let (places, sets) = (&mut places[..cells], &mut sets[..cells]);
-        write_places(size, house, places);
+        let places = places_of(self.size(), house);
+        let places: &[u32] = &places;
+        let mut sets = [0; LONGEST];
+        let sets = &mut sets[..places.len()];
         gather(board, places, sets);
-        filter_sets(sets, self.clue(house), &mut scratch.rows);
+        filter_sets(sets, self.clue(house), scratch.rows());
         apply(board, places, sets)
     }
 

@@ -7,7 +7,7 @@ pub use Rattle.std.proofs.Math.Bool.{and-false, or-false}
 pub use Rattle.std.proofs.Math.ListN.{set}
 pub use Rattle.std.proofs.Math.Seq.{take-length}
 pub use Rattle.std.proofs.lemmas.Grind.{common_steps}
-pub use Rattle.std.proofs.lemmas.List.{ext_get_or, get_or-replicate, get_or-take, take-set, take_more_set}
+pub use Rattle.std.proofs.lemmas.List.{ext_get_or, get_or-replicate, get_or-take, get_or_append_left, get_or_push}
 pub use Rattle.std.proofs.lemmas.Nat.{and_le_r, or_lt}
 pub use Rattle.std.proofs.lemmas.Simd.{map-map}
 pub use Rattle.std.specs.Int.{bit_at, bit_not, trailing_zeros}

@@ -1,6 +1,5 @@
 -- Pairings of the cells with values, and how they go on.
-use Rattle.solo_core.proofs.Common.{AreDifferent, Bool, PairsOneMore, IsBegun, IsOutside, IsPaired, IsRest, IsShortRest, IsShownBy, KeepsFillings, List, PairsCells, [], ap, append-nil, arith, cases_Bool, cases_eq, cases_lt, common_steps, cond, different-filter, eq-eqb, eqb, eqb-true, false, false_from_ne_true, filter_of_map_range_with_len_more, get_or, get_or-map, get_or-map-range_with_len, get_or-range_with_len, get_or_past, has_bit, has_in, has_place, has_place-at, has_place-here, has_value, inl, inr, is_struck, length, length-map, length-map-range_with_len, length-range_with_len, map, map-id, nat_tests, no_choice, no_repeat, no_repeat_from_different, not, not-true, not_from_false, own_from_no_repeat, place-filter, place-kept, range_with_len, refl, rest_of, set, set_of_bits, shown_from_test, slice_index, suc, sym, take, take-set, take_more_set, test_from_shown, true, true_from_ne_false, true≢false, zero, ℕ, ◌++◌, ◌+◌, ◌<◌, ◌∙◌, ◌∷◌, ◌≡◌, ◌≤◌, ◌⊎◌}
-use mir.Val.{bool_byte}
+use Rattle.solo_core.proofs.Common.{AreDifferent, Bool, PairsOneMore, IsBegun, IsOutside, IsPaired, IsRest, IsShortRest, IsShownBy, KeepsFillings, List, PairsCells, [], ap, append-nil, arith, cases_Bool, cases_eq, cases_lt, common_steps, cond, different-filter, eq-eqb, eqb, eqb-true, false, false_from_ne_true, filter_of_map_range_with_len_more, get_or, get_or-map, get_or-map-range_with_len, get_or-range_with_len, get_or_past, has_bit, has_in, has_place, has_place-at, has_place-here, has_value, inl, inr, is_struck, length, length-map, length-map-range_with_len, length-range_with_len, map, map-id, nat_tests, no_choice, no_repeat, no_repeat_from_different, not, not-true, not_from_false, own_from_no_repeat, place-filter, place-kept, range_with_len, refl, rest_of, set_of_bits, shown_from_test, slice_index, suc, sym, test_from_shown, true, true_from_ne_false, true≢false, zero, ℕ, ◌++◌, ◌+◌, ◌<◌, ◌∙◌, ◌∷◌, ◌≡◌, ◌⊎◌, length-set, get_or-set_at, get_or-set_other, slice_set, get_or_append_left, get_or_push}
 
 -- A pairing of the cells with values is a filling without repeat, and a short set rules out every one. The values of the cells that
 -- are alone and a pairing of the rest make a pairing of the house.
@@ -73,15 +72,6 @@ rest-more k cells e off = rw e (sym (rest-next k cells ∙ ap (λ b. rest_of k c
 
 pub rest-same : (k : ℕ) (cells : ℕ → Bool) {rest : List ℕ} → rest ≡ rest_of k cells → cells k ≡ true → rest ≡ rest_of (k + 1) cells
 rest-same k cells e on = e ∙ sym (rest-next k cells ∙ ap (λ b. rest_of k cells ++ cond (not b) (k ∷ []) []) on ∙ append-nil (rest_of k cells))
-
-pub byte-most : (on : Bool) → bool_byte on ≤ 1
-byte-most true = omega arith
-byte-most false = omega arith
-
-pub rest-written : (xs : List ℕ) (count k : ℕ) (cells : ℕ → Bool) (on : Bool) → take count xs ≡ rest_of k cells → count < length xs → cells k ≡ not on
-    → take (count + bool_byte on) (set xs count k) ≡ rest_of (k + 1) cells
-rest-written xs count k cells true e lt is = take_more_set xs count k lt ∙ rest-more k cells e is
-rest-written xs count k cells false e lt is = ap (λ n. take n (set xs count k)) (omega arith) ∙ take-set xs count k ∙ rest-same k cells e is
 
 -- ---- which cells are in the rest
 module _ (n : ℕ) (cells : ℕ → Bool) where
@@ -272,3 +262,25 @@ module _ (n : ℕ) (sets rest : List ℕ) where
           (rw last (b.in_range j lj)) (rw last there) (λ l lt e. no_mate l lt (e ∙ last)) (λ v on. on)
           (rw last (false_from_ne_true (has_bit left (mate j)) (λ on. true≢false (sym (inside (mate j) on) ∙ b.taken j lj)))),
     )
+
+  -- the cells' values in a list: one more is appended
+  pub pushed_free : (k : ℕ) (mates : List ℕ) {pushed : List ℕ} {free value : ℕ} → length mates ≡ k → IsBegun n sets rest k (slice_index mates) free
+      → pushed ≡ mates ++ value ∷ [] → value < n → has_in sets (slice_index rest k) value ≡ true → has_bit free value ≡ true
+      → PairsOneMore n sets rest k (slice_index pushed) free value
+  pushed_free k mates {free = free} {value = value} long b is low has unused =
+      rw is (goes_on_free k b (λ l lt. get_or_append_left mates (value ∷ []) 0 l (omega (arith, long))) (get_or_push mates value 0 k long) low has unused)
+
+  -- one of them is changed for a free one, and is appended
+  pub pushed_swapped : (k j : ℕ) (mates : List ℕ) {pushed : List ℕ} {free value mate : ℕ} → length mates ≡ k → IsBegun n sets rest k (slice_index mates) free
+      → j < k → mate ≡ slice_index mates j → pushed ≡ slice_set mates j value ++ mate ∷ []
+      → value < n → has_in sets (slice_index rest j) value ≡ true → has_bit free value ≡ true → has_in sets (slice_index rest k) mate ≡ true
+      → PairsOneMore n sets rest k (slice_index pushed) free value
+  pushed_swapped k j mates {free = free} {value = value} {mate = mate} long b lj same is low has unused there =
+      let changed : List ℕ = slice_set mates j value in
+      let as_long : length changed ≡ k = length-set mates j value ∙ long in
+      let before = λ (l : ℕ) (lt : l < k). get_or_append_left changed (mate ∷ []) 0 l (omega (arith, as_long)) in
+      rw is (goes_on_swapped k (slice_index mates) free value j b lj low has unused
+      (get_or_push changed mate 0 k as_long ∙ same)
+      (before j lj ∙ get_or-set_at mates j j value 0 refl (omega (arith, long)))
+      (λ l lt ne. before l lt ∙ get_or-set_other mates j l value 0 ne)
+      (rw same at there))

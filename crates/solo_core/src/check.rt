@@ -1,8 +1,8 @@
 //! The check of a grid.
 #![tactic(auto, using(crate::proofs::LawSets::check_laws))]
 
-ghost use Rattle.std.specs.Prelude.{◌≡◌};
-ghost use Rattle.solo_core.specs.Common.{IsGrid, IsSolo, solo_n, solo_cells, IsHouseOf, numbers_of, no_repeat};
+ghost use Rattle.std.specs.Prelude.{◌↔◌, ◌≡◌, None};
+ghost use Rattle.solo_core.specs.Common.{IsGrid, IsSolo, IsSoloSolution, solo_n, solo_cells, IsHouseOf, numbers_of, no_repeat};
 ghost use Rattle.solo_core.specs.Faults.{IsSoloFault, fault_of as fault_of_house};
 
 use crate::fault::SoloFault;
@@ -19,6 +19,16 @@ use grid_core::Grid;
 /// The rule is that of the manual of Simon Tatham's Portable Puzzle Collection, "Solo": every row, column and block has
 /// every number once, and in Solo X each of both main diagonals too.
 pub fn check_solo(puzzle: &SoloPuzzle, grid: &Grid) -> Option<SoloFault>
+    requires fits { IsGrid (solo_cells puzzle.now) (solo_n puzzle.now) grid.now }
+    ensures lawful { IsSolo puzzle.now }
+    ensures fault { IsSoloFault puzzle.now grid.now result }
+    ensures solution { (result ≡ None) ↔ IsSoloSolution puzzle.now grid.now }
+{
+    first_fault(puzzle, grid)
+}
+
+/// The same, without what it says of solutions.
+fn first_fault(puzzle: &SoloPuzzle, grid: &Grid) -> Option<SoloFault>
     requires fits { IsGrid (solo_cells puzzle.now) (solo_n puzzle.now) grid.now }
     ensures lawful { IsSolo puzzle.now }
     ensures fault { IsSoloFault puzzle.now grid.now result }

@@ -4,6 +4,7 @@ ghost use Rattle.commands.specs.Answers.{IsGreater, code_of, status_of};
 ghost use Rattle.commands.specs.declared.answers.status.Stop.TheVariants.{Memory};
 
 use std::alloc::AllocError;
+use thiserror::Error;
 
 /// The status of a run that wanted memory.
 pub const NO_MEMORY: u8 = 5;
@@ -53,11 +54,13 @@ impl Status {
 }
 
 /// Why a run ended before its answer was whole.
-#[derive(Drop)]
+#[derive(Debug, Drop, Error)]
 pub enum Stop {
     /// Memory was wanted.
+    #[error("out of memory")]
     Memory,
     /// An end failed.
+    #[error("a read or write fault")]
     Broken,
 }
 

@@ -2,9 +2,9 @@
 #![tactic(auto, using(crate::proofs::LawSets::position_laws))]
 
 ghost use Rattle.std.specs.Prelude.{◌-◌, ◌<◌, ◌≡◌, ◌≤◌, IfOk, false, if◌then◌else◌, length, max, not, slice_set, true};
-ghost use Rattle.engine_core.specs.Common.{from_bool, has, SameShape, cells_of, is_solved, is_queue, IsFull, needs_in, needs_of, FitsIn, IsBoardOf, IsClosedFrom, IsVisited, SameRoom, IsAlive, IsRested, is_waiting, Dead, Open};
+ghost use Rattle.engine_core.specs.Common.{from_bool, has, SameShape, cells_of, is_solved, own_grid, is_queue, IsClosedAround, IsClosedBut, IsClosedBy, IsFull, needs_in, needs_of, FitsIn, IsBoardOf, IsClosedFrom, IsVisited, SameRoom, IsAlive, IsRested, is_waiting, Dead, Open};
 
-use crate::closing::marking::{is_house_dead, mark_after};
+use crate::closing::marking::{is_house_dead, mark_after, mark_at};
 use crate::houses::visit::read_head;
 use crate::mode::{Closing, Taken};
 use crate::needs::{Needs, needs_for};
@@ -38,7 +38,7 @@ fn report<R: Rules>(dead: bool, turns: usize, struck: bool) -> Taken
 }
 
 /// A board, and what it takes to close it: what the rules work in, room for the sets that a house's cells had before its
-/// visit, a mark for each house that waits, and in a queue room for the houses visited.
+/// visit, a mark for each house that waits, and room for the houses visited, if they are to be written down.
 #[derive(Drop)]
 pub(crate) struct Closer<R: Rules> {
     pub(crate) made: Needs,
@@ -46,11 +46,11 @@ pub(crate) struct Closer<R: Rules> {
     sets: Fixed<u32>,
     pub(crate) waits: Fixed<u64>,
     pub(crate) trace: Fixed<usize>,
-    pub(crate) board: Board,
+    board: Board,
 }
 
 impl<R: Rules> Model for Closer<R> {
-    ghost use Rattle.engine_core.specs.Common.{is_queue, needs_in, BoardAndMarks, IsCloserOf};
+    ghost use Rattle.engine_core.specs.Common.{needs_in, BoardAndMarks, IsCloserOf};
 
     ghost Value = { BoardAndMarks };
 
@@ -61,21 +61,22 @@ impl<R: Rules> Model for Closer<R> {
       trace = c.trace.items;
     } };
 
-    ghost invariant = { λ c. IsCloserOf (is_queue R.MODE) (needs_in c.made) c.board c.sets.items
-        c.waits.items c.trace.items × R.serves c.scratch (needs_in c.made) };
+    ghost invariant = { λ c. IsCloserOf (needs_in c.made) c.board c.sets.items c.waits.items
+        × R.serves c.scratch (needs_in c.made) };
 }
 
 impl<R: Rules> Closer<R> {
-    /// The memory that closings by these rules, and by smaller ones, need. The board is full.
+    /// The memory that closings by these rules, and by smaller ones, need. The board is full. So many visits of a closing are
+    /// written down, the first ones.
     ///
     /// # Errors
     ///
     /// When memory was refused.
-    pub(crate) fn new(alloc: Global, rules: &R) -> Result<Closer<R>, AllocError>
-        ensures { IfOk result (λ closer. closer.made ≡ needs_of (R.system rules.now)) }
+    pub(crate) fn new(alloc: Global, rules: &R, trace: usize) -> Result<Closer<R>, AllocError>
+        ensures made { IfOk result (λ closer. closer.made ≡ needs_of (R.system rules.now)) }
+        ensures trace { IfOk result (λ closer. length closer.trace ≡ trace) }
     {
         let made = needs_for(rules);
-        let trace = if by_queue::<R>() { made.bound } else { 0 };
         Ok(Closer {
             made,
             scratch: rules.scratch(alloc)?,
@@ -84,6 +85,15 @@ impl<R: Rules> Closer<R> {
             trace: Fixed::copies(alloc, 0usize, trace)?,
             board: Board::new(alloc, made.cells, made.values)?,
         })
+    }
+
+    /// The board.
+    pub(crate) fn board(&self) -> &Board
+        ensures board { result.now ≡ self.now.board }
+        ensures cells { cells_of result.now ≡ self.now.made.cells }
+        ensures values { result.now.values ≡ self.now.made.values }
+    {
+        &self.board
     }
 
     /// Begins with the board that a search starts from.
@@ -146,16 +156,45 @@ impl<R: Rules> Closer<R> {
         self.run(rules)
     }
 
-    /// Writes down a visit of a queue, by its number.
-    fn note(&mut self, number: usize, house: usize)
-        requires room { is_queue R.MODE ≡ true → number < length self.old.trace }
-        ensures board { self.new.board ≡ self.old.board }
-        ensures waits { self.new.waits ≡ self.old.waits }
-        ensures noted { is_queue R.MODE ≡ true
-            → self.new.trace ≡ slice_set self.old.trace number house }
+    /// Closes the board, which was closed before the cell of that place lost all values but one: at first the houses of the
+    /// place wait.
+    fn close_around(&mut self, rules: &R, place: usize) -> Taken
+        requires fits { FitsIn (needs_of (R.system rules.now)) self.old.made }
+        requires closed { IsClosedAround (R.system rules.now) (has self.old.board) place }
+        ensures closing { IsClosedFrom (R.system rules.now) (is_queue R.MODE) self.old result
+            self.new }
         ensures room { SameRoom self.old self.new }
     {
-        if by_queue::<R>() {
+        self.waits.fill(0);
+        mark_at(rules, place, &mut self.waits);
+        self.run(rules)
+    }
+
+    /// Closes this board. Where a place is named, the board was closed before that place's cell lost all values but one.
+    pub(crate) fn close_board(&mut self, rules: &R, board: &Board, from: Option<usize>) -> Taken
+        requires fits { FitsIn (needs_of (R.system rules.now)) self.old.made }
+        requires board_of { IsBoardOf (R.system rules.now) board.now }
+        requires closed_but { IsClosedBut (R.system rules.now) (has board.now) from }
+        ensures closing { IsClosedBy (R.system rules.now) (is_queue R.MODE) (has board.now) result
+            self.new }
+        ensures board_of { IsBoardOf (R.system rules.now) self.new.board }
+        ensures room { SameRoom self.old self.new }
+    {
+        self.copy(rules, board);
+        match from {
+            None => self.close(rules),
+            Some(place) => self.close_around(rules, place),
+        }
+    }
+
+    /// Writes down a visit by its number, if there is room for it.
+    fn note(&mut self, number: usize, house: usize)
+        ensures board { self.new.board ≡ self.old.board }
+        ensures waits { self.new.waits ≡ self.old.waits }
+        ensures noted { self.new.trace ≡ slice_set self.old.trace number house }
+        ensures room { SameRoom self.old self.new }
+    {
+        if number < self.trace.len() {
             self.trace[number] = house;
         }
     }
@@ -199,6 +238,7 @@ impl<R: Rules> Closer<R> {
         requires full { IsFull (R.system rules.now) (has self.old.board) }
         requires long { length grid.old ≡ (R.system rules.now).cells }
         ensures solution { result ≡ is_solved (R.system rules.now) (has self.old.board) }
+        ensures grid { grid.new ≡ own_grid (R.system rules.now) (has self.old.board) }
         ensures long { length grid.new ≡ (R.system rules.now).cells }
         ensures same { self.new ≡ self.old }
     {

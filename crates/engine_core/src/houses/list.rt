@@ -5,6 +5,7 @@ ghost use Rattle.std.specs.Prelude.{◌++◌, ◌<◌, ◌^◌, ◌∷◌, ◌�
 ghost use Rattle.engine_core.specs.Common.{last_end};
 ghost use Rattle.engine_core.specs.HouseList.{FitsPlaces, FitsLists, with_end, with_place};
 
+use grid_core::Fixed;
 use std::alloc::{AllocError, Global};
 use std::marker::Model;
 
@@ -70,7 +71,36 @@ impl HouseList {
         Ok(())
     }
 
-    /// How many lists are closed.
+    /// The closed lists, to which nothing is added any more. The begun one goes.
+    pub fn freeze(self) -> FrozenList
+        ensures { result ≡ self }
+    {
+        FrozenList {
+            places: Fixed::of(self.places),
+            ends: Fixed::of(self.ends),
+        }
+    }
+}
+
+/// The lists of a `HouseList`, when no more are added. They lend their places, and nothing else: no call takes memory.
+#[derive(Drop)]
+pub struct FrozenList {
+    places: Fixed<u32>,
+    ends: Fixed<usize>,
+}
+
+impl Model for FrozenList {
+    ghost use Rattle.engine_core.specs.HouseList.{Listed, listed, IsListed};
+
+    ghost Value = { Listed };
+
+    ghost view = { λ l. listed l.places.items l.ends.items };
+
+    ghost invariant = { λ l. IsListed l.places.items l.ends.items };
+}
+
+impl FrozenList {
+    /// How many lists there are.
     pub fn len(&self) -> usize
         ensures len { result ≡ length self.now.closed }
         ensures few { result < 2 ^ 32 }
@@ -79,7 +109,7 @@ impl HouseList {
         ends.len()
     }
 
-    /// How many places all closed lists have together.
+    /// How many places all lists have together.
     pub fn total(&self) -> usize
         ensures total { result ≡ sum_by length self.now.closed }
         ensures few { result < 2 ^ 32 }
@@ -87,7 +117,7 @@ impl HouseList {
         last(&self.ends)
     }
 
-    /// The places of a closed list.
+    /// The places of a list.
     pub fn places(&self, house: usize) -> &[u32]
         requires { house < length self.now.closed }
         ensures { result.now ≡ slice_index_or self.now.closed house [] }

@@ -5,7 +5,7 @@ ghost use Rattle.std.specs.Prelude.{◌*◌, ◌+◌, ◌/◌, ◌<◌, ◌^◌,
 ghost use Rattle.engine_core.specs.Common.{has_place, IsNext};
 ghost use Rattle.engine_core.specs.HouseList.{AreMarkedToo, AreScopes, HasWordsAt, scope_of, AreMarksAt, HasMarked};
 
-use crate::houses::list::HouseList;
+use crate::houses::list::FrozenList;
 use crate::waits::next_waiting;
 use grid_core::Fixed;
 use std::alloc::{AllocError, Global};
@@ -39,7 +39,7 @@ pub(crate) fn join_marks(waits: &mut [u64], marks: &[u64])
 #[derive(Drop)]
 pub(crate) struct HouseTable {
     cells: usize,
-    pub(crate) list: HouseList,
+    pub(crate) list: FrozenList,
     marks: Fixed<u64>,
 }
 
@@ -55,12 +55,16 @@ impl Model for HouseTable {
 }
 
 impl HouseTable {
-    /// The table of the lists that are closed.
+    /// The table of the lists.
     ///
     /// # Errors
     ///
     /// When memory was refused.
-    pub(crate) fn of(alloc: Global, cells: usize, list: HouseList) -> Result<HouseTable, AllocError>
+    pub(crate) fn of(
+        alloc: Global,
+        cells: usize,
+        list: FrozenList,
+    ) -> Result<HouseTable, AllocError>
         requires cells { cells < 2 ^ 32 }
         requires scopes { AreScopes cells list.closed }
         ensures { IfOk result (λ table. table ≡ record { cells = cells; scopes = list.closed }) }

@@ -10,7 +10,7 @@ use crate::needs::{Needs, needs_for};
 use crate::rule_set::RuleSet;
 use crate::rules::Rules;
 use crate::search::position::Position;
-use crate::trail::cells::{better_cell, write_grid};
+use crate::trail::cells::{best_cell, least_value, write_grid};
 use crate::trail::trailed::TrailedBoard;
 use crate::waits::{dequeue, dequeue_if, next_around};
 use grid_core::{Board, Fixed, Grid};
@@ -125,9 +125,6 @@ impl<S: RuleSet> TrailPosition<S> {
         ensures within { result ≤ (S.system (S.puzzle_of rules.now.set)).houses }
     {
         let houses = rules.houses();
-        if !singles_first {
-            return house + 1;
-        }
         let board = self.trailed.board();
         let first: &mut [u64] = &mut self.first;
         for number in before..self.trailed.len() {
@@ -137,13 +134,16 @@ impl<S: RuleSet> TrailPosition<S> {
             }
         }
         dequeue(first, house);
+        if !singles_first {
+            return house + 1;
+        }
         next_around(first, house + 1, houses).unwrap_or(house + 1)
     }
 
     /// Closes the board: goes around over the houses that wait and visits each, until none waits or a cell has no value. After
     /// the last house it begins again. At first each house waits that strikes anything; it may be more. Houses in which a cell
-    /// gets its last value can come first.
-    fn run(&mut self, rules: &HouseRules<S>, singles_first: bool) -> Taken
+    /// gets its last value can come first, and do so once it has begun again.
+    fn run(&mut self, rules: &HouseRules<S>, mut singles_first: bool) -> Taken
         requires along { IsAlong (S.system (S.puzzle_of rules.now.set)) self.old }
         requires alive { IsAlive (S.system (S.puzzle_of rules.now.set)) (board_in self.old) }
         requires rested { AreHousesRested (S.system (S.puzzle_of rules.now.set)) self.old }
@@ -157,6 +157,7 @@ impl<S: RuleSet> TrailPosition<S> {
         let mut turns = 0;
         let mut from = 0;
         while let Some(house) = next_around(&self.waits, from, rules.houses()) {
+            singles_first |= house < from;
             turns += 1;
             let before = self.trailed.len();
             if self.step(rules, house) {
@@ -219,30 +220,15 @@ impl<S: RuleSet> Position<HouseRules<S>> for TrailPosition<S> {
     }
 
     fn pick(&self, rules: &HouseRules<S>, from: usize) -> Option<usize> {
-        let board = self.trailed.board();
-        let mut best = None;
-        for cell in from..rules.cells() {
-            best = better_cell(board, best, cell);
-            if board.count(cell) == 2 {
-                return best; // no later cell is better
-            }
-        }
-        best
+        best_cell(self.trailed.board(), from, rules.cells())
     }
 
     fn next_value(&self, rules: &HouseRules<S>, cell: usize, from: u8) -> Option<u8> {
-        let board = self.trailed.board();
-        for value in from..rules.values() {
-            if board.has(cell, value) {
-                return Some(value);
-            }
-        }
-        None
+        least_value(self.trailed.board(), cell, from, rules.values())
     }
 
     fn leave(&mut self, rules: &HouseRules<S>, cell: usize, value: u8) {
-        let before = self.trailed.board().bits(cell);
-        self.trailed.leave(rules, cell, before, 1 << value);
+        self.trailed.leave_one(rules, cell, value);
     }
 
     fn undo(&mut self, _rules: &HouseRules<S>, mark: usize) {

@@ -2,7 +2,7 @@
 #![tactic(auto, using(crate::proofs::LawSets::trail_laws))]
 
 ghost use Rattle.std.specs.Prelude.{◌≡◌, ◌≢◌, ℕ, ◌+◌, ◌*◌, ◌<◌, ◌≤◌, IfOk, bit_and, length, true, false};
-ghost use Rattle.engine_core.specs.Common.{has, cells_of, SameShape, count_below, only, max_cells, max_values, IsAlive, IsDeadAfter, KeepsChanges, AreSetsOf, IsKept, IsBoardOf, after, IsBitsOf, back_at, change_at, left_by, IsTrailLonger, IsTrailBack, IsHouseStruck};
+ghost use Rattle.engine_core.specs.Common.{has, cells_of, SameShape, IsInside, count_below, only, max_cells, max_values, IsAlive, IsDeadAfter, KeepsChanges, AreSetsOf, IsKept, IsBoardOf, after, IsBitsOf, back_at, change_at, left_by, IsTrailLonger, IsTrailBack, IsHouseStruck};
 
 use crate::rules::Rules;
 use grid_core::{Board, Fixed};
@@ -133,6 +133,36 @@ impl TrailedBoard {
         self.board.retain(place, left);
         self.changes[self.len] = (place as u32, before);
         self.len += 1;
+    }
+
+    /// Leaves that value alone in the cell, which has several.
+    pub(crate) fn leave_one<R: Rules>(&mut self, rules: &R, place: usize, value: u8)
+        requires board_of { IsBoardOf (R.system rules.now) self.old.board }
+        requires place_in { place < (R.system rules.now).cells }
+        requires value_in { value < (R.system rules.now).values }
+        requires there { has self.old.board place value ≡ true }
+        requires several { 2 ≤ count_below (has self.old.board place) (R.system rules.now).values }
+        ensures left { has self.new.board ≡ only (has self.old.board) place value }
+        ensures further { IsTrailLonger self.old self.new }
+    {
+        let before = self.board.bits(place);
+        self.leave(rules, place, before, 1 << value);
+    }
+
+    /// Leaves of each cell no more than this board has, which lies inside, and notes what those had that lost a value.
+    pub(crate) fn follow<R: Rules>(&mut self, rules: &R, board: &Board)
+        requires board_of { IsBoardOf (R.system rules.now) self.old.board }
+        requires same_shape { IsBoardOf (R.system rules.now) board.now }
+        requires inside { IsInside (has board.now) (has self.old.board) }
+        ensures left { has self.new.board ≡ has board.now }
+        ensures further { IsTrailLonger self.old self.new }
+    {
+        for place in 0..rules.cells() {
+            let (before, left) = (self.board.bits(place), board.bits(place));
+            if left != before {
+                self.leave(rules, place, before, left);
+            }
+        }
     }
 
     /// Takes the board back to the mark: each cell changed since gets its values back.

@@ -1,12 +1,11 @@
 //! What only a game knows of rules whose houses count the ones of their cells.
 
-ghost use Rattle.std.specs.Prelude.{◌*◌, ◌<◌, ◌∷◌, ◌≡◌, IfOk, List, ℕ, [], length, true};
-ghost use Rattle.fields_core.specs.Common.{AreNamed, AreShortEnough, CountHouse, CountPuzzle, Extent, IsCounted, IsExtent, IsGrid, Needs, house_told, needs_in, rules_of};
+ghost use Rattle.std.specs.Prelude.{◌<◌, ◌∷◌, ◌≡◌, IfOk, List, ℕ, [], length};
+ghost use Rattle.fields_core.specs.Common.{AreNamed, CountHouse, CountPuzzle, IsCounted, IsGrid, house_told};
 
 use crate::count::house::House;
 use crate::count::name::HouseName;
-use engine_core::Needs;
-use grid_core::{Grid, Size};
+use grid_core::Grid;
 use std::alloc::{AllocError, Global};
 
 /// A puzzle whose cells hold 0 or 1, with houses that bound the number of ones in their cells.
@@ -19,12 +18,6 @@ pub trait CountGame: Drop + Sized {
 
     /// What it counts.
     ghost counts: { Self → CountPuzzle };
-
-    /// The size of its grid.
-    ghost extent: { Self → Extent };
-
-    /// Words of 64 places are long enough for all puzzles of these sizes.
-    ghost all_short: { Needs → Type 0 };
 
     /// The house of that kind which a place or a line tells, if there is one.
     ghost told: { Self → Self.Kind → ℕ → List CountHouse };
@@ -48,15 +41,9 @@ pub trait CountGame: Drop + Sized {
         requires one { length (told self.now kind place) ≡ 1 }
         ensures { told self.now kind place ≡ house_told result ∷ [] };
 
-    /// The size of its grid.
-    fn size(&self) -> Size
-        ensures value { result ≡ extent self.now }
-        ensures lawful { IsExtent result }
-        ensures short { AreShortEnough all_short (rules_of (counts self.now)) result };
-
-    /// Whether words of 64 places are known to be long enough for all puzzles of these sizes.
-    fn are_short(&self, made: Needs) -> bool
-        ensures { result ≡ true → all_short (needs_in made) };
+    /// How many cells it has.
+    fn cells(&self) -> usize
+        ensures { result ≡ (counts self.now).cells };
 
     /// Whether the cell can only hold 0.
     fn is_blocked(&self, place: usize) -> bool
@@ -73,7 +60,4 @@ pub trait CountGame: Drop + Sized {
         requires served { serves scratch.old ((counts self.now).cells) }
         ensures solution { result ≡ (counts self.now).is_solution grid.now }
         ensures keeps { (n : ℕ) → serves scratch.old n → serves scratch.new n };
-
-    /// The grid has the cells of the board.
-    ghost cells_are: { (p : Self) → (extent p).w * (extent p).h ≡ (counts p).cells };
 }

@@ -105,7 +105,7 @@ impl<P: CountGame> Rules for CountRules<P> {
     ghost serves_smaller = { λ w need had f s. subst (P.serves w) (sym f.same_cells) s };
 
     fn cells(&self) -> usize {
-        self.puzzle.size().cells()
+        self.puzzle.cells()
     }
 
     fn values(&self) -> u8 {

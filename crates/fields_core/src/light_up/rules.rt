@@ -14,7 +14,7 @@ use crate::light_up::light_house::{LightHouse, lit_told, number_told, run_told};
 use crate::light_up::line::WhiteLine;
 use crate::light_up::lonely::has_lonely_number;
 use crate::planes::light_up::light_notes::LightNotes;
-use crate::planes::rules::PlaneGame;
+use crate::planes::rules::{GridGame, PlaneGame};
 use engine_core::Needs;
 use gameid_core::LightPuzzle;
 use grid_core::{Grid, Size};
@@ -32,11 +32,7 @@ impl CountGame for LightPuzzle {
 
     ghost counts = { light_counts };
 
-    ghost extent = { λ p. p.size };
-
     ghost told = { light_house };
-
-    ghost all_short = { λ needs. needs.cells ≤ 128 };
 
     ghost serves = { λ _ _. Unit {0} };
 
@@ -59,12 +55,8 @@ impl CountGame for LightPuzzle {
         }
     }
 
-    fn size(&self) -> Size {
-        LightPuzzle::size(self)
-    }
-
-    fn are_short(&self, made: Needs) -> bool {
-        made.cells <= 128 // each side is 2 at least
+    fn cells(&self) -> usize {
+        LightPuzzle::size(self).cells()
     }
 
     fn is_blocked(&self, place: usize) -> bool {
@@ -77,6 +69,20 @@ impl CountGame for LightPuzzle {
 
     fn accept(&self, _scratch: &mut (), grid: &Grid) -> bool {
         check_lights(self, grid).is_none()
+    }
+}
+
+impl GridGame for LightPuzzle {
+    ghost extent = { λ p. p.size };
+
+    ghost all_short = { λ needs. needs.cells ≤ 128 };
+
+    fn size(&self) -> Size {
+        LightPuzzle::size(self)
+    }
+
+    fn are_short(&self, made: Needs) -> bool {
+        made.cells <= 128 // each side is 2 at least
     }
 
     ghost cells_are = { λ _. refl };

@@ -5,6 +5,7 @@ ghost use Rattle.engine_core.specs.ClosingList.{IsAlive};
 ghost use Rattle.fields_core.specs.Common.{AreKept, HasBoard, IsClosedIn, IsClosedTo, IsCounted, IsFurther, IsSweep, Layers, Needs, has, rules_of};
 
 use crate::count::game::CountGame;
+use crate::planes::rules::GridGame;
 use engine_core::{Closing, Taken};
 use grid_core::{Planes, Word};
 
@@ -30,7 +31,7 @@ pub trait SweepNotes<W: Word, P: CountGame>: Sized {
 /// Closes the board by sweeps, until one takes nothing or a cell would be left without a value: what board is left then
 /// is open. Those sweeps count that took something, and the one that stopped; one at least. At first each house waits that
 /// strikes anything.
-pub(crate) fn close<W: Word, P: CountGame, N: SweepNotes<W, P>>(
+pub(crate) fn close<W: Word, P: GridGame, N: SweepNotes<W, P>>(
     notes: &mut N,
     planes: &mut Planes<W>,
     puzzle: &P,

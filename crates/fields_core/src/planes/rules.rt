@@ -1,7 +1,7 @@
 //! Count rules, as rules that are searched on planes: by sweeps.
 
-ghost use Rattle.std.specs.Prelude.{◌≡◌, ℕ, refl};
-ghost use Rattle.fields_core.specs.Common.{AreMet, AreNamed, IsGrid};
+ghost use Rattle.std.specs.Prelude.{◌*◌, ◌≡◌, ℕ, refl, true};
+ghost use Rattle.fields_core.specs.Common.{AreMet, AreNamed, AreShortEnough, Extent, IsExtent, IsGrid, Needs, needs_in, rules_of};
 
 use crate::count::game::CountGame;
 use crate::count::name::HouseName;
@@ -9,8 +9,30 @@ use crate::count::rules::CountRules;
 use engine_core::{BinaryRules, Needs, PlaneNotes, PlanePosition, PlaneRules, Searchable};
 use grid_core::{Grid, Size};
 
+/// A puzzle of count houses whose cells make a grid.
+pub trait GridGame: CountGame {
+    /// The size of its grid.
+    ghost extent: { Self → Extent };
+
+    /// Words of 64 places are long enough for all puzzles of these sizes.
+    ghost all_short: { Needs → Type 0 };
+
+    /// The size of its grid.
+    fn size(&self) -> Size
+        ensures value { result ≡ extent self.now }
+        ensures lawful { IsExtent result }
+        ensures short { AreShortEnough all_short (rules_of (Self.counts self.now)) result };
+
+    /// Whether words of 64 places are known to be long enough for all puzzles of these sizes.
+    fn are_short(&self, made: Needs) -> bool
+        ensures { result ≡ true → all_short (needs_in made) };
+
+    /// The grid has the cells of the board.
+    ghost cells_are: { (p : Self) → (extent p).w * (extent p).h ≡ (Self.counts p).cells };
+}
+
 /// A puzzle of count houses that is closed on planes.
-pub trait PlaneGame: CountGame {
+pub trait PlaneGame: GridGame {
     /// What its rules keep beside planes of words of 64 places.
     type Short: PlaneNotes<u64, CountRules<Self>>;
 
@@ -32,7 +54,7 @@ pub trait PlaneGame: CountGame {
         ensures keeps { (n : ℕ) → Self.serves scratch.old n → Self.serves scratch.new n };
 }
 
-impl<P: CountGame> BinaryRules for CountRules<P> {
+impl<P: GridGame> BinaryRules for CountRules<P> {
     ghost use Rattle.fields_core.specs.CountLaws.{count-alive};
 
     ghost extent = { λ r. P.extent r.puzzle };

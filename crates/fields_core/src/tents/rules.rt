@@ -7,7 +7,7 @@ use crate::count::game::CountGame;
 use crate::count::house::{House, Segment, beside, count_passing};
 use crate::count::name::HouseName;
 use crate::count::rules::CountRules;
-use crate::planes::rules::PlaneGame;
+use crate::planes::rules::{GridGame, PlaneGame};
 use crate::planes::tents::tent_notes::TentNotes;
 use crate::tents::cells::{column_number, is_tree, row_number};
 use crate::tents::check::find_fault;
@@ -31,11 +31,7 @@ impl CountGame for TentsPuzzle {
 
     ghost counts = { tent_counts };
 
-    ghost extent = { λ p. p.size };
-
     ghost told = { tent_house };
-
-    ghost all_short = { λ needs. needs.scope ≤ 64 };
 
     ghost serves = { HasPairingRoom };
 
@@ -67,12 +63,8 @@ impl CountGame for TentsPuzzle {
         }
     }
 
-    fn size(&self) -> Size {
-        TentsPuzzle::size(self)
-    }
-
-    fn are_short(&self, made: Needs) -> bool {
-        made.scope <= 64
+    fn cells(&self) -> usize {
+        TentsPuzzle::size(self).cells()
     }
 
     /// A tree, and a cell with no tree beside it, can have no tent.
@@ -84,11 +76,25 @@ impl CountGame for TentsPuzzle {
     }
 
     fn scratch(&self, alloc: Global) -> Result<PairingScratch, AllocError> {
-        PairingScratch::new(alloc, self.size().cells())
+        PairingScratch::new(alloc, self.cells())
     }
 
     fn accept(&self, scratch: &mut PairingScratch, grid: &Grid) -> bool {
         find_fault(self, grid, scratch).is_none()
+    }
+}
+
+impl GridGame for TentsPuzzle {
+    ghost extent = { λ p. p.size };
+
+    ghost all_short = { λ needs. needs.scope ≤ 64 };
+
+    fn size(&self) -> Size {
+        TentsPuzzle::size(self)
+    }
+
+    fn are_short(&self, made: Needs) -> bool {
+        made.scope <= 64
     }
 
     ghost cells_are = { λ _. refl };

@@ -13,7 +13,7 @@ use crate::light_up::cell::LightCell;
 use crate::light_up::puzzle::LightPuzzle;
 use crate::text::runs::push_run;
 use crate::text::writing::{push_letter, push_size};
-use grid_core::Size;
+use grid_core::{Fixed, Size};
 use std::alloc::{AllocError, Global};
 
 /// How many cells a byte stands for, and their kind.
@@ -112,7 +112,10 @@ impl IdText for LightPuzzle {
     fn read_description(alloc: Global, head: Head, description: &[u8]) -> Result<Self, IdFault> {
         let size = Size::new(head.w, head.h).unwrap();
         let cells = cells(alloc, size.cells(), head.description, description)?;
-        Ok(LightPuzzle { size, cells })
+        Ok(LightPuzzle {
+            size,
+            cells: Fixed::of(cells),
+        })
     }
 
     fn id_size(&self) -> (u8, u8, bool) {

@@ -5,7 +5,7 @@ ghost use Rattle.gameid_core.specs.Puzzles.{IsLight, IsLightCell, Light};
 ghost use Rattle.gameid_core.specs.declared.light_up.cell.LightCell.TheVariants.{White};
 
 use crate::light_up::cell::LightCell;
-use grid_core::Size;
+use grid_core::{Fixed, Size};
 use std::alloc::{AllocError, Global};
 use std::marker::Model;
 
@@ -14,7 +14,7 @@ use std::marker::Model;
 #[derive(Debug, Drop)]
 pub struct LightPuzzle {
     pub(crate) size: Size,
-    pub(crate) cells: Vec<LightCell>,
+    pub(crate) cells: Fixed<LightCell>,
 }
 
 impl Model for LightPuzzle {
@@ -35,7 +35,7 @@ impl LightPuzzle {
         ensures { IfOk result (λ p. p
             ≡ record { size = size; cells = replicate (size.w * size.h) White }) }
     {
-        let cells = vec![in alloc; LightCell::White; size.cells()]?;
+        let cells = Fixed::copies(alloc, LightCell::White, size.cells())?;
         Ok(LightPuzzle { size, cells })
     }
 
@@ -43,10 +43,9 @@ impl LightPuzzle {
     pub fn copy(&self, alloc: Global) -> Result<LightPuzzle, AllocError>
         ensures { IfOk result (λ p. p ≡ self.now) }
     {
-        let cells = self.cells.to_vec(alloc)?;
         Ok(LightPuzzle {
             size: self.size,
-            cells,
+            cells: Fixed::of(self.cells().to_vec(alloc)?),
         })
     }
 

@@ -13,6 +13,7 @@ use crate::solo::puzzle::SoloPuzzle;
 use crate::text::number::leading_number;
 use crate::text::runs::push_run;
 use crate::text::writing::{push_letter, push_number, push_size};
+use grid_core::Fixed;
 use std::alloc::{AllocError, Global};
 
 /// How many cells the first token stands for and their value, and the text after it.
@@ -114,7 +115,7 @@ impl IdText for SoloPuzzle {
             c: head.w,
             r: head.h,
             x: head.x,
-            givens,
+            givens: Fixed::of(givens),
         })
     }
 

@@ -3,6 +3,7 @@
 ghost use Rattle.std.specs.Prelude.{◌≡◌, ◌<◌, ◌≤◌, ◌*◌, length, slice_index, slice_set, replicate, IfOk};
 ghost use Rattle.gameid_core.specs.Common.{IsSolo, Solo, max_numbers, solo_n, solo_puzzle};
 
+use grid_core::Fixed;
 use std::alloc::{AllocError, Global};
 use std::marker::Model;
 
@@ -14,7 +15,7 @@ pub struct SoloPuzzle {
     pub(crate) c: u8,
     pub(crate) r: u8,
     pub(crate) x: bool,
-    pub(crate) givens: Vec<u8>,
+    pub(crate) givens: Fixed<u8>,
 }
 
 impl Model for SoloPuzzle {
@@ -36,7 +37,7 @@ impl SoloPuzzle {
         ensures { IfOk result (λ p. p ≡ solo_puzzle c r x (replicate ((c * r) * (c * r)) 0)) }
     {
         let n = usize::from(c) * usize::from(r);
-        let givens = vec![in alloc; 0; n * n]?;
+        let givens = Fixed::copies(alloc, 0u8, n * n)?;
         Ok(SoloPuzzle { c, r, x, givens })
     }
 
@@ -45,12 +46,11 @@ impl SoloPuzzle {
         ensures same { IfOk result (λ p. p ≡ self.now) }
         ensures lawful { IsSolo self.now }
     {
-        let givens = self.givens.to_vec(alloc)?;
         Ok(SoloPuzzle {
             c: self.c,
             r: self.r,
             x: self.x,
-            givens,
+            givens: Fixed::of(self.givens().to_vec(alloc)?),
         })
     }
 

@@ -13,7 +13,7 @@ use crate::tents::puzzle::TentsPuzzle;
 use crate::text::number::{leading_number, starts_with_digit};
 use crate::text::runs::push_run;
 use crate::text::writing::{push_number, push_size};
-use grid_core::{Size, line_count, line_len};
+use grid_core::{Fixed, Size, line_count, line_len};
 use std::alloc::{AllocError, Global};
 
 /// Adds so many blanks, and a tree if it is told to.
@@ -196,8 +196,8 @@ impl IdText for TentsPuzzle {
         places.truncate(size.cells());
         Ok(TentsPuzzle {
             size,
-            trees: places,
-            counts,
+            trees: Fixed::of(places),
+            counts: Fixed::of(counts),
         })
     }
 

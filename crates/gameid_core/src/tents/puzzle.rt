@@ -4,7 +4,7 @@ ghost use Rattle.std.specs.Prelude.{◌≡◌, ◌<◌, ◌≤◌, ◌+◌, ◌*
 ghost use Rattle.gameid_core.specs.Common.{AreColumnOnes, AreRowOnes, IsGrid, IsTents, Tents, lines_of, lines_ones, tents_puzzle};
 
 use crate::lines::ones::{numbers_of, ones_of_lines};
-use grid_core::{Grid, Size};
+use grid_core::{Fixed, Grid, Size};
 use std::alloc::{AllocError, Global};
 use std::marker::Model;
 
@@ -13,8 +13,8 @@ use std::marker::Model;
 #[derive(Debug, Drop)]
 pub struct TentsPuzzle {
     pub(crate) size: Size,
-    pub(crate) trees: Vec<u8>,
-    pub(crate) counts: Vec<u8>,
+    pub(crate) trees: Fixed<u8>,
+    pub(crate) counts: Fixed<u8>,
 }
 
 impl Model for TentsPuzzle {
@@ -53,8 +53,8 @@ impl TentsPuzzle {
         let trees = numbers_of(alloc, trees)?;
         Ok(TentsPuzzle {
             size,
-            trees,
-            counts,
+            trees: Fixed::of(trees),
+            counts: Fixed::of(counts),
         })
     }
 
@@ -62,12 +62,12 @@ impl TentsPuzzle {
     pub fn copy(&self, alloc: Global) -> Result<TentsPuzzle, AllocError>
         ensures { IfOk result (λ p. p ≡ self.now) }
     {
-        let trees = self.trees.to_vec(alloc)?;
-        let counts = self.counts.to_vec(alloc)?;
+        let trees = self.trees().to_vec(alloc)?;
+        let counts = self.counts().to_vec(alloc)?;
         Ok(TentsPuzzle {
             size: self.size,
-            trees,
-            counts,
+            trees: Fixed::of(trees),
+            counts: Fixed::of(counts),
         })
     }
 

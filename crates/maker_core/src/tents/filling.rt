@@ -1,6 +1,6 @@
 //! Fillings of Tents: a tree beside each tent.
 
-ghost use Rattle.std.specs.Prelude.{◌≡◌, ◌<◌, ◌*◌, IfOk, OnOk, true, length};
+ghost use Rattle.std.specs.Prelude.{◌≡◌, ◌<◌, ◌*◌, IfOk, true, length};
 ghost use Rattle.grid_core.specs.Grids.{IsGrid};
 ghost use Rattle.maker_core.specs.Draws.{IsDrawnBy};
 ghost use Rattle.maker_core.specs.SoloFilling.{IsOrder};
@@ -8,6 +8,7 @@ ghost use Rattle.maker_core.specs.TentMaking.{IsSolvedFilling, no_tents, is_free
 ghost use Rattle.maker_core.specs.TentSteps.{AreTaken, IsCellTaken, IsTentPlaced, IsTentTaken};
 
 use crate::draws::{draw, order};
+use arrayvec::ArrayVec;
 use fields_core::touches_tent;
 use grid_core::{Grid, Size, step};
 use rand_core::Rng;
@@ -32,18 +33,13 @@ fn is_free(filling: &TentFilling, place: usize) -> bool
 
 /// The cells beside the place that have neither tree nor tent: up, left, right, down.
 #[tactic(auto, using(crate::proofs::TentsSolved::sides), unfolding(grid_core::specs::Regions::steps))]
-fn free_cells(
-    alloc: Global,
-    size: Size,
-    filling: &TentFilling,
-    place: usize,
-) -> Result<Vec<usize>, AllocError>
+fn free_cells(size: Size, filling: &TentFilling, place: usize) -> ArrayVec<usize, 4>
     requires trees { length filling.now.trees ≡ size.w * size.h }
     requires tents { length filling.now.tents ≡ size.w * size.h }
     requires place { place < size.w * size.h }
-    ensures { IfOk result (λ places. places.items ≡ free_cells_beside size filling.now place) }
+    ensures { result.items ≡ free_cells_beside size filling.now place }
 {
-    let mut places = Vec::new(alloc);
+    let mut places = ArrayVec::new();
     for direction in 0..4 {
         let other = match step(size, place, direction) {
             Some(other) => other,
@@ -52,9 +48,9 @@ fn free_cells(
         if !is_free(filling, other) {
             continue;
         }
-        places.push(other)?;
+        places.push(other);
     }
-    Ok(places)
+    places
 }
 
 /// Puts a tent into the cell and a tree into the one of the free cells beside it that a draw names.
@@ -84,57 +80,41 @@ fn place_tent<G: Rng>(
 
 /// Takes a cell while fewer tents stand than a fifth of the cells, rounded down. The cell becomes a tent if it has no
 /// tree, touches no tent and has a free cell beside it.
-fn take_cell<G: Rng>(
-    alloc: Global,
-    rng: &mut G,
-    size: Size,
-    filling: &mut TentFilling,
-    place: usize,
-) -> Result<(), AllocError>
+fn take_cell<G: Rng>(rng: &mut G, size: Size, filling: &mut TentFilling, place: usize)
     requires trees { IsGrid (size.w * size.h) 2 filling.old.trees }
     requires tents { IsGrid (size.w * size.h) 2 filling.old.tents }
     requires place { place < size.w * size.h }
-    ensures drawn { OnOk result
-        (IsCellTaken size place filling.old filling.new G.stream rng.old rng.new) }
-    ensures taken { OnOk result (IsTentTaken size filling.old place filling.new) }
+    ensures drawn { IsCellTaken size place filling.old filling.new G.stream rng.old rng.new }
+    ensures taken { IsTentTaken size filling.old place filling.new }
 {
     if filling.placed >= size.cells() / 5 {
-        return Ok(());
+        return;
     }
     if filling.trees.get(place) != 0 {
-        return Ok(());
+        return;
     }
     if touches_tent(size, &filling.tents, place) {
-        return Ok(());
+        return;
     }
-    let free = free_cells(alloc, size, filling, place)?;
+    let free = free_cells(size, filling, place);
     if free.is_empty() {
-        return Ok(());
+        return;
     }
     place_tent(rng, size, filling, place, &free);
-    Ok(())
 }
 
 /// Takes the cells of the order in turn.
-fn take_cells<G: Rng>(
-    alloc: Global,
-    rng: &mut G,
-    size: Size,
-    filling: &mut TentFilling,
-    order: &[usize],
-) -> Result<(), AllocError>
+fn take_cells<G: Rng>(rng: &mut G, size: Size, filling: &mut TentFilling, order: &[usize])
     requires order { IsOrder (size.w * size.h) order.now }
     requires none { filling.old ≡ no_tents size }
-    ensures drawn { OnOk result
-        (AreTaken size order.now filling.new G.stream rng.old rng.new) }
-    ensures trees { OnOk result (IsGrid (size.w * size.h) 2 filling.new.trees) }
-    ensures tents { OnOk result (IsGrid (size.w * size.h) 2 filling.new.tents) }
-    ensures solved { OnOk result (IsSolvedFilling size filling.new) }
+    ensures drawn { AreTaken size order.now filling.new G.stream rng.old rng.new }
+    ensures trees { IsGrid (size.w * size.h) 2 filling.new.trees }
+    ensures tents { IsGrid (size.w * size.h) 2 filling.new.tents }
+    ensures solved { IsSolvedFilling size filling.new }
 {
     for k in 0..order.len() {
-        take_cell(alloc, rng, size, filling, order[k])?;
+        take_cell(rng, size, filling, order[k]);
     }
-    Ok(())
 }
 
 /// A filling of Tents: the cells, listed by place and shuffled, are taken in turn.
@@ -156,6 +136,6 @@ pub(crate) fn fill_tents<G: Rng>(
         tents: Grid::new(alloc, cells)?,
         placed: 0,
     };
-    take_cells(alloc, rng, size, &mut filling, &places)?;
+    take_cells(rng, size, &mut filling, &places);
     Ok(filling)
 }

@@ -6,7 +6,8 @@ ghost use Rattle.engine_core.specs.Counts.{IsClosedIn};
 ghost use Rattle.pattern_core.specs.LinePlanes.{AreLinesRested, AreLinesWithin, AreLinesMarked, HasLineRoom, IsClosedTo, IsStart, is_same};
 ghost use Rattle.pattern_core.specs.LineRules.{line_rules};
 
-use crate::lines::{LineScratch, PatternLines};
+use crate::line_scratch::LineScratch;
+use crate::lines::PatternLines;
 use crate::planes::visit::visit;
 use crate::planes::waits::Waits;
 use engine_core::{Closing, Taken};

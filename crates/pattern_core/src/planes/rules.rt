@@ -2,7 +2,8 @@
 
 ghost use Rattle.std.specs.Prelude.{◌≡◌, ◌≤◌, refl};
 
-use crate::lines::{LineScratch, PatternLines};
+use crate::line_scratch::LineScratch;
+use crate::lines::PatternLines;
 use crate::planes::close::close;
 use engine_core::{BinaryRules, Needs, PlaneNotes, PlanePosition, PlaneRules, Searchable, Taken};
 use grid_core::{Grid, Planes, Size, Word};

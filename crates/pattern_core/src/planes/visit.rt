@@ -5,7 +5,8 @@ ghost use Rattle.pattern_core.specs.Below.{IsAlive, IsFurther, has, lines_beside
 ghost use Rattle.pattern_core.specs.LinePlanes.{IsVisitOf, house_of};
 ghost use Rattle.pattern_core.specs.LineRules.{line_rules};
 
-use crate::lines::{LineScratch, PatternLines};
+use crate::line_scratch::LineScratch;
+use crate::lines::PatternLines;
 use crate::planes::filter::Cells;
 use grid_core::{Line, Planes, Size, Word, line_len};
 
@@ -41,7 +42,7 @@ pub(crate) fn visit<W: Word>(
         white: planes.line(line, 0),
         black: planes.line(line, 1),
     };
-    let kept = now.filter(count, rules.clue(house), &mut scratch.rows);
+    let kept = now.filter(count, rules.clue(house), scratch.rows());
     if W::all(count).but(kept.white.either(kept.black)).is_some() {
         return None;
     }

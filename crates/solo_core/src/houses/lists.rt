@@ -32,7 +32,7 @@ fn push_line(
     Ok(())
 }
 
-/// BeginsList a list with the places of a block: its rows, one after another.
+/// Begins a list with the places of a block: its rows, one after another.
 pub(crate) fn push_block(
     list: &mut HouseList,
     puzzle: &SoloPuzzle,

@@ -8,6 +8,9 @@ ghost use Rattle.solo_core.specs.PeeledHouses.{AreCellsOf};
 use crate::visits::bits::next_bit;
 use grid_core::Edges;
 
+/// More cells than a house has.
+pub(crate) const MANY: usize = 32;
+
 /// Some cells of a house as lefts and the values as rights: each of these cells is joined to the values of its set.
 #[derive(Drop)]
 pub(crate) struct CellValueGraph<'a> {

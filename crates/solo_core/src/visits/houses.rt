@@ -6,21 +6,22 @@ ghost use Rattle.solo_core.specs.Common.{has_bit as is_set, has_in};
 ghost use Rattle.solo_core.specs.PeeledHouses.{AreLone, IsPaired, IsRest, KeepsFillings, KeepsOthers, KeepsReaching};
 
 use crate::visits::bits::{next_bit, others_below, with_bit_if};
-use crate::visits::mates::{MANY, pair_rest, write_rest};
+use crate::visits::graph::MANY;
+use crate::visits::mates::{pair_rest, rest_of};
 use crate::visits::peel::{are_whole, copy_counted, peel};
 use crate::visits::reach::{close_under_steps, write_leads};
 use crate::visits::turning::lie_on_rounds;
 use engine_core::has_bit;
-use grid_core::{Paired, Pairing};
+use grid_core::Pairing;
 
 /// Decides what is kept of the sets of a house: bit `v` of the `k`-th stays exactly where some filling without repeat
 /// has the value `v` in the `k`-th cell. Says whether anything may be struck; else nothing is, whatever is in `kept`.
 ///
 /// A cell that has alone what no other has is settled, and only the rest is looked at. There the values of cells that
-/// have one alone are struck from the others first. If the others have all other values each, nothing more is struck.
-/// Else one filling of the rest is found by a pairing. Another one has the value `v` in a cell
-/// exactly where one can go from `v` back to the cell's value in the first filling, each time to a value that the cell
-/// of the last could have instead: the cells on the way change their values in turn.
+/// have one alone are struck from the others first. If none has, and the others have all other values each, nothing is
+/// struck. Else one filling of the rest is found by a pairing. Another one has the value `v` in a cell exactly where one
+/// can go from `v` back to the cell's value in the first filling, each time to a value that the cell of the last could
+/// have instead: the cells on the way change their values in turn.
 pub(crate) fn keep_houses(values: u8, sets: &[u32], kept: &mut [u32], pairing: &mut Pairing) -> bool
     requires few { values ≤ max_values }
     requires square { length sets.now ≡ values }
@@ -36,16 +37,13 @@ pub(crate) fn keep_houses(values: u8, sets: &[u32], kept: &mut [u32], pairing: &
     if !is_open && are_whole(values, settled, sets) {
         return false;
     }
-    let mut rest_space = [0u8; MANY];
-    let count = write_rest(sets, settled, &mut rest_space);
-    let rest = &rest_space[..count];
+    let others = rest_of(sets, settled);
+    let rest: &[u8] = &others;
     if !is_open {
         return keep_others(values, settled, rest, kept, pairing);
     }
     let lone = peel(values, counts, settled, rest, kept);
-    if !are_whole(values, lone, kept) {
-        keep_others(values, lone, rest, kept, pairing);
-    }
+    keep_others(values, lone, rest, kept, pairing);
     true
 }
 
@@ -61,15 +59,11 @@ fn keep_others(values: u8, lone: u32, rest: &[u8], kept: &mut [u32], pairing: &m
     ensures same { result ≡ false → kept.new ≡ kept.old }
     ensures room { pairing.new.room ≡ pairing.old.room }
 {
-    let mut paired_space = [0u8; MANY];
-    let paired = &mut paired_space[..rest.len()];
-    match pair_rest(values, kept, rest, pairing, paired) {
-        Paired::Short => {
-            kept.fill(0);
-            true
-        }
-        Paired::All => keep_paired(values, lone, rest, paired, kept),
-    }
+    let Some(paired) = pair_rest(values, kept, rest, pairing) else {
+        kept.fill(0);
+        return true;
+    };
+    keep_paired(values, lone, rest, &paired, kept)
 }
 
 /// Decides what is kept of a house in which these values are those of cells that are alone, and the rest is paired. Says

@@ -1,9 +1,9 @@
-use Rattle.pattern_core.proofs.Common.{ap, arith}
-use Rattle.pattern_core.proofs.FaultLemmas.{first_row, not_right}
+use Rattle.pattern_core.proofs.FaultLemmas.{pattern_none}
+use Rattle.pattern_core.specs.Solutions.{FailsPattern, pattern_tests}
+use Rattle.gameid_core.proofs.FirstFailed.{none_exactly}
 use Rattle.pattern_core.proofs.check.check_pattern.Goals as goal
 
-pub returns-in-loop-line : goal.returns-in-loop-line
-returns-in-loop-line c =
-    let w = ap (λ s. s.w) c.size-size.ensures.value in let h = ap (λ s. s.h) c.size-size.ensures.value in
-    first_row _ _ _ (omega arith) (omega arith)
-    (not_right _ _ c.loop-line.line (grind arith)) c.loop-line.invariant
+pub returns-clause-solution : goal.returns-clause-solution
+returns-clause-solution c =
+    let p = c.args.puzzle.now in let g = c.args.grid.now in
+    none_exactly (FailsPattern p g) (pattern_tests p) (pattern_none p g) _ c.first_fault.ensures

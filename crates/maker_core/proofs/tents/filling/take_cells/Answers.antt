@@ -9,6 +9,6 @@ pub loop-k-preserved : goal.loop-k-preserved
 loop-k-preserved g c =
     let within : c.loop-k.k < c.args.size.w * c.args.size.h = let l = c.requires.order.len in let t = c.loop-k-test.true in omega arith in
     record {
-      drawn = more_after _ _ _ _ c.loop-k.invariant.drawn c.in_ok-take_cell.ensures.drawn refl;
-      filling = filling_step (wide c.args.size within) c.requires.order within refl c.loop-k.invariant.filling c.in_ok-take_cell.ensures.taken;
+      drawn = more_after _ _ _ _ c.loop-k.invariant.drawn c.take_cell.ensures.drawn refl;
+      filling = filling_step (wide c.args.size within) c.requires.order within refl c.loop-k.invariant.filling c.take_cell.ensures.taken;
     }

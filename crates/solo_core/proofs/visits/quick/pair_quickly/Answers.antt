@@ -1,4 +1,4 @@
-use Rattle.solo_core.proofs.Common.{arith, nat_tests, ℕ, ◌∙◌}
+use Rattle.solo_core.proofs.Common.{arith, nat_tests, ℕ}
 use Rattle.solo_core.proofs.BitLemmas.{bits-without}
 use Rattle.solo_core.proofs.visits.quick.pair_quickly.Goals as goal
 
@@ -7,7 +7,7 @@ loop-i-preserved c =
     let value = c.in-Some.value in
     let left = λ (v : ℕ). bits-without c.loop-i.free c.with_bit.result v (omega arith) (omega arith) in
     record {
-      as_many = c.give.ensures.as_many ∙ c.loop-i.invariant.as_many;
+      as_many = c.in-Some.ensures.more;
       begun = c.in-Some.ensures.on.1 _ (λ v on. grind (arith, left v))
           (grind (arith, nat_tests, left value, c.with_bit.ensures value));
     }

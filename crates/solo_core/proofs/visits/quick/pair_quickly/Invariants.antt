@@ -3,6 +3,6 @@ use Rattle.solo_core.proofs.visits.quick.pair_quickly.Given as goal
 
 abbrev pub invariant-loop-i : goal.invariant-loop-i
 invariant-loop-i l = record {
-  as_many : length l.mates ≡ length l.fn.mates;
-  begun : IsBegun l.graph.values l.graph.sets.now l.graph.rest.now l.i (slice_index l.mates) l.free;
+  as_many : length l.mates.items ≡ l.i;
+  begun : IsBegun l.graph.values l.graph.sets.now l.graph.rest.now l.i (slice_index l.mates.items) l.free;
 }

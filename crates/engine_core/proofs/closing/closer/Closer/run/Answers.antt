@@ -1,7 +1,7 @@
-use Rattle.engine_core.proofs.Common.{IsQueuedAround, Some, and_parts, ap, arith, cases_Bool, false, from_bool, has, inl, inr, is_waiting, length, length-set, length-take-le, lt-ltb, ltb, not, refl, sym, true, true≢false, ℕ, ◌&&◌, ◌+◌, ◌<◌, ◌||◌, ◌∙◌, ◌≡◌, ◌≤◌}
+use Rattle.engine_core.proofs.Common.{IsQueuedAround, Some, [], and_parts, ap, arith, cases_Bool, false, from_bool, has, inl, inr, is_waiting, lt-ltb, ltb, not, refl, sym, true, true≢false, ℕ, ◌&&◌, ◌+◌, ◌<◌, ◌||◌, ◌∙◌, ◌≡◌, ◌≤◌}
 use Rattle.engine_core.proofs.AroundLemmas.{IsStriking, amid-few, amid-first, around-in, exact-end, queued-turn, rest-around, steps-fall, still-alive, striking-next, striking-turn}
 use Rattle.engine_core.proofs.ListLemmas.{room, room-more, room-same, running-first}
-use Rattle.engine_core.proofs.QueueLemmas.{IsBoardOf-same, pushed, within_of}
+use Rattle.engine_core.proofs.QueueLemmas.{IsBoardOf-same, within_of}
 use Rattle.engine_core.proofs.closing.closer.Closer.run.Goals as goal
 use Rattle.engine_core.proofs.closing.closer.Closer.run.Goals.{In-Some}
 
@@ -15,13 +15,15 @@ loop-house-init g c =
       dead = c.requires.alive;
       queued = λ queue. (
           let none : c.from-turns.result ≡ 0 = rw queue at turns in
-          rw none (
-            omega arith,
-            record {
+          record {
+            visits = [];
+            many = sym none;
+            written = λ _. refl;
+            queued = record {
               running = λ _. running-first p laws (has c.args.self.now.board) _ queue c.requires.alive c.requires.rested;
               ended = λ e. absurd (true≢false (sym e));
-            },
-          ));
+            };
+          });
       striking = λ sweeps. (
           let one : c.from-turns.result ≡ 1 = rw sweeps at turns in
           rw one (record {
@@ -50,14 +52,7 @@ more : (g : _) (c : In-Some g) → (g.R.Rules.system c.args.rules.now).by_queue 
 more g c queue off =
     let q = c.loop-house.invariant.queued queue in
     let w = around-in _ _ _ _ (around g c) in
-    omega (arith, room (q.1.running off) w.0 w.1, length-take-le c.loop-house.turns c.loop-house.self.trace q.0)
-
-long : (g : _) (c : In-Some g) → (g.R.Rules.system c.args.rules.now).by_queue ≡ true
-    → (g.R.Rules.system c.args.rules.now).bound ≤ length c.loop-house.self.trace
-long g c e =
-    let queue = sym (g.met.R.Rules.mode_is c.args.rules.now) ∙ e in
-    let same = ap (λ m. m.bound) (rw (← c.self.view_is) at c.loop-house.invariant.room.made) in
-    rw (← c.self.view_is) (omega (arith, rw queue at c.self.invariant.0.trace_long, c.requires.fits.bound_in, same))
+    omega (arith, room (q.queued.running off) w.0 w.1, q.many)
 
 -- the sweep in which the next house is visited
 here : (g : _) (c : In-Some g) {more : ℕ}
@@ -73,28 +68,31 @@ here g c {more} on counts sweeps =
     striking-next _ (g.met.R.Rules.lawful c.args.rules.now) _ (within_of _ _ c.requires.board_of) (i.striking sweeps) i.past more
     (λ lt. i.dead ∙ still-alive c.loop-house.dead (rw (mode, lt-ltb _ _ lt) at on)) (around g c) (rw mode at counts)
 
-pub note-requires : goal.note-requires
-note-requires g c = record {
-  room = λ queue.
-      let at = (goal.at.note-requires g c).In-Some in
-      let e = g.met.R.Rules.mode_is c.args.rules.now ∙ queue in
-      omega (arith, more g at e (alive g at c.if-dead-begins.false e), long g at e);
-}
+-- the turns are within the bound
+few : (g : _) (c : In-Some g) {next : ℕ}
+    → (c.loop-house.dead && (c.by_queue-by_queue.result || ltb c.in-Some.house c.loop-house.from)) ≡ false
+    → next ≡ from_bool (c.by_queue-by_queue.result || ltb c.in-Some.house c.loop-house.from)
+    → c.loop-house.turns + next ≤ (g.R.Rules.system c.args.rules.now).bound
+few g c {next} on counts =
+    let p = g.R.Rules.system c.args.rules.now in
+    elim (cases_Bool p.by_queue) [
+      | inl queue ↦ (
+          let one : next ≡ 1 = rw (c.by_queue-by_queue.ensures ∙ sym (g.met.R.Rules.mode_is c.args.rules.now), queue) at counts in
+          omega (arith, more g c queue (alive g c on queue), one))
+      | inr sweeps ↦ amid-few p (g.met.R.Rules.lawful c.args.rules.now) _ (within_of _ _ c.requires.board_of) (here g c on counts sweeps).amid sweeps
+    ]
+
+pub overflow_add-turns : goal.overflow_add-turns
+overflow_add-turns g c =
+    let fits = few g (goal.at.overflow_add-turns g c).In-Some c.if-dead-begins.false c.from-turns-in-Some.ensures in
+    let same = ap (λ m. m.bound) (rw (← c.self.view_is) at c.loop-house.invariant.room.made) in
+    omega (arith, fits, c.requires.fits.bound_in, c.self.invariant.0.few_turns, same)
 
 pub loop-house-smaller : goal.loop-house-smaller
 loop-house-smaller g c =
-    let p = g.R.Rules.system c.args.rules.now in
     let at = (goal.at.loop-house-smaller g c).In-Some in
     let counts = c.from-turns-in-Some.ensures in
-    let on = c.if-dead-begins.false in
-    let few : c.loop-house.turns + c.from-turns-in-Some.result ≤ p.bound = elim (cases_Bool p.by_queue) [
-      | inl queue ↦ (
-          let one : c.from-turns-in-Some.result ≡ 1 =
-          rw (c.by_queue-by_queue.ensures ∙ sym (g.met.R.Rules.mode_is c.args.rules.now), queue) at counts in
-          omega (arith, more g at queue (alive g at on queue), one))
-      | inr sweeps ↦ amid-few p (g.met.R.Rules.lawful c.args.rules.now) _ (within_of _ _ c.requires.board_of) (here g at on counts sweeps).amid sweeps
-    ] in
-    steps-fall _ _ _ _ few c.loop-house.invariant.past (around-in _ _ _ _ (around g at)).0 (λ _. refl) counts
+    steps-fall _ _ _ _ (few g at c.if-dead-begins.false counts) c.loop-house.invariant.past (around-in _ _ _ _ (around g at)).0 (λ _. refl) counts
 
 pub loop-house-preserved : goal.loop-house-preserved
 loop-house-preserved g c =
@@ -115,14 +113,8 @@ loop-house-preserved g c =
       dead = dead;
       queued = λ queue. (
           let one : c.from-turns-in-Some.result ≡ 1 = rw (mode, queue) at c.from-turns-in-Some.ensures in
-          let off = alive g at on queue in
-          let lt = more g at queue off in
-          let wrote = e.trace ∙ n.noted (sym (g.met.R.Rules.mode_is c.args.rules.now) ∙ queue) in
-          let q = i.queued queue in
-          rw (one, wrote, pushed c.loop-house.self.trace {n = c.loop-house.turns} c.in-Some.house (omega (arith, lt, long g at queue))) (
-            omega (arith, lt, long g at queue, length-set c.loop-house.self.trace c.loop-house.turns c.in-Some.house),
-            queued-turn p laws _ (within_of _ _ c.requires.board_of) (q.1.running off) _ _ queue within w.0 w.1 left (rw (n.board, n.waits) at (e.visited.woken queue)) dead,
-          ));
+          rw (one, e.trace ∙ n.noted) (queued-turn p laws _ (within_of _ _ c.requires.board_of) (i.queued queue) (alive g at on queue) _ _ queue within w.0 w.1
+          left (rw (n.board, n.waits) at (e.visited.woken queue)) dead));
       striking = λ sweeps. rw (mode ∙ sweeps) (striking-turn p laws _ (within_of _ _ c.requires.board_of) (here g at on c.from-turns-in-Some.ensures sweeps) w.0 left
           (rw n.waits at (e.visited.rewoken sweeps))
           (rw n.board at e.visited.idle) (rw n.board at e.visited.struck));

@@ -1,5 +1,5 @@
-use Rattle.engine_core.proofs.Common.{SameRoom, false, has, is_dead, is_waiting, length, take, true, ◌*◌, ◌+◌, ◌-◌, ◌≡◌, ◌≤◌}
-use Rattle.engine_core.proofs.AroundLemmas.{IsQueued, IsStriking}
+use Rattle.engine_core.proofs.Common.{SameRoom, false, has, is_dead, is_waiting, true, ◌*◌, ◌+◌, ◌-◌, ◌≡◌, ◌≤◌}
+use Rattle.engine_core.proofs.AroundLemmas.{IsQueuedBy, IsStriking}
 use Rattle.engine_core.proofs.closing.closer.Closer.run.Given as goal
 
 abbrev pub invariant-loop-house : goal.invariant-loop-house
@@ -8,8 +8,8 @@ invariant-loop-house g l =
     record {
       past : l.from ≤ p.houses;
       dead : is_dead p.cells p.values (has l.self.board) ≡ l.dead;
-      queued : p.by_queue ≡ true → (l.turns ≤ length l.self.trace)
-          × IsQueued p (has l.fn.self.board) (take l.turns l.self.trace) (has l.self.board) (is_waiting l.self.waits) l.dead;
+      queued : p.by_queue ≡ true
+          → IsQueuedBy p (has l.fn.self.board) l.turns l.self.trace (has l.self.board) (is_waiting l.self.waits) l.dead;
       striking : p.by_queue ≡ false → IsStriking p (has l.fn.self.board) l.turns l.from (has l.self.board) (is_waiting l.self.waits) l.struck;
       room : SameRoom l.fn.self l.self;
     }

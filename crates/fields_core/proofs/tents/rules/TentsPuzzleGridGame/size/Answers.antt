@@ -1,6 +1,6 @@
 use Rattle.fields_core.proofs.Common.{arith}
 use Rattle.fields_core.proofs.TentWaits.{sides-fit}
-use Rattle.fields_core.proofs.tents.rules.TentsPuzzleCountGame.size.Goals as goal
+use Rattle.fields_core.proofs.tents.rules.TentsPuzzleGridGame.size.Goals as goal
 
 pub returns-clause-short : goal.returns-clause-short
 returns-clause-short c = λ had fits short.

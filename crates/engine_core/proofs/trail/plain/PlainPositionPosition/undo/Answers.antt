@@ -1,0 +1,14 @@
+use Rattle.engine_core.proofs.QueueLemmas.{IsBoardOf-same}
+use Rattle.engine_core.proofs.trail.plain.PlainPositionPosition.undo.Goals as goal
+
+pub returns-clause-walks : goal.returns-clause-walks
+returns-clause-walks g c =
+    let r = rw (← c.self.view_is) at c.requires in
+    record {
+      along =
+          record {
+            fits = r.walks.along.fits;
+            board_of = IsBoardOf-same r.walks.along.board_of c.undo.ensures.shape;
+          };
+      inside = rw c.undo.ensures.here r.inside;
+    }

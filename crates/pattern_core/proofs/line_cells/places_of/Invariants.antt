@@ -1,0 +1,7 @@
+use Rattle.pattern_core.proofs.Common.{length, line_places, slice_index, ℕ, ◌*◌, ◌<◌, ◌≡◌}
+use Rattle.pattern_core.proofs.line_cells.places_of.Given as goal
+
+abbrev pub invariant-loop-k : goal.invariant-loop-k
+invariant-loop-k l = (length l.places.items ≡ l.k)
+    × ((k : ℕ) → k < l.k → slice_index l.places.items k ≡ slice_index (line_places l.size l.line) k)
+    × ((k : ℕ) → k < l.k → slice_index l.places.items k < l.size.w * l.size.h)
