@@ -1,4 +1,2 @@
 pub mod CommandLine
 pub mod Requests
-pub mod StdEnds
-pub mod StdEndLaws

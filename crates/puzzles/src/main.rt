@@ -2,16 +2,14 @@
 #![tactic(auto)]
 
 pub mod command_line;
-pub mod ends;
 pub mod run;
 #[cfg(test)]
 mod tests;
 pub mod words;
 
-use crate::ends::read_end::ReadEnd;
-use crate::ends::write_end::WriteEnd;
 use crate::run::run;
 use commands::NO_MEMORY;
+use ends::{ReadEnd, WriteEnd};
 use std::env;
 use std::io::ErrorKind;
 use std::process::ExitCode;

@@ -6,14 +6,13 @@ ghost use Rattle.puzzles.specs.Requests.{is_input_read, request_of};
 ghost use Rattle.commands.specs.Runs.{AreNew, IsEndBroken, NoneFailed, Ran, call_limit};
 ghost use Rattle.commands.specs.Stops.{DeliversReply, LeavesEnds, LeavesSink, status_in};
 
-use crate::ends::read_end::ReadEnd;
-use crate::ends::write_end::WriteEnd;
 use crate::words::{Request, read_words};
 use commands::laws::each_request_has_an_answer;
 use commands::{
     BROKEN, NO_MEMORY, Reply, RunResult, Sink, Source, Status, Stores, check_id, deliver,
     generated, grade_id, solve_lines, words_reply,
 };
+use ends::{ReadEnd, WriteEnd};
 use std::alloc::{AllocError, Global};
 
 /// Puts an answer that was made whole, if there was memory for it.

@@ -1,9 +1,10 @@
 //! Runs over readers and writers that cut, fail or never end. What they are to write follows from
 //! the rules and the formats by hand.
 use crate::run::run_on_bytes;
-use crate::tests::fakes::{Did, Ends, observe, texts};
+use crate::tests::fakes::{Chunks, Did, Ends, observe, texts};
 use crate::tests::rows::Row;
-use commands::push_number;
+use commands::{Source, push_number};
+use ends::ReadEnd;
 use std::alloc::{AllocError, Global};
 use std::test::Fail;
 
@@ -114,6 +115,10 @@ fn a_failing_writer_leaves_a_beginning(rt: HostRuntime) -> Result<(), Fail> {
         (SOLVED, 1, 3, "on", 3, 0),
         (SOLVED, 1, 4, "one", 4, 0),
         (SOLVED, 1, 5, "one\n", 5, 0),
+        (SOLVED, 1, 6, "one\n#", 6, 0),
+        (SOLVED, 1, 7, "one\n##", 7, 0),
+        (SOLVED, 1, 8, "one\n##.", 8, 0),
+        (SOLVED, 1, 9, "one\n##.#", 9, 0),
         (SOLVED, 1, 10, "one\n##.##", 10, 0),
         (SOLVED, 4_096, 0, "one\n##.##\n", 1, 0),
         (SOLVED, 1, 0, "one\n##.##\n", 10, 0),
@@ -155,7 +160,24 @@ fn an_endless_reader_is_given_up(rt: HostRuntime) -> Result<(), Fail> {
     Ok(())
 }
 
-/// Under `rt try --test --fail-alloc N` the N-th growth of this run may be refused.
+#[test]
+fn a_source_tells_of_its_reader(rt: HostRuntime) {
+    let (mut ends, mut buffer) = (Ends::of(2, 1), [0u8; 4]);
+    let mut source = ReadEnd::new(Chunks::of(b"abcde", ends));
+    for (k, count) in [2, 2, 1, 0].iter().enumerate() {
+        assert!(rt; !source.ended() && !source.failed() && source.calls() < 4);
+        assert_eq!(rt; source.fetch(&mut buffer), Some(*count), "call {k}");
+        assert_eq!(rt; source.calls() as usize, k + 1);
+    }
+    assert!(rt; source.ended() && !source.failed());
+    ends.read_fails_at = 1;
+    let mut failing = ReadEnd::new(Chunks::of(b"abcde", ends));
+    assert_eq!(rt; failing.fetch(&mut buffer), None);
+    assert!(rt; failing.failed() && !failing.ended());
+}
+
+/// For `rt try --test --fail-alloc N` alone, by which the N-th growth of this run may be refused. With ample memory the
+/// tables of runs say what is written.
 #[test]
 fn want_of_memory_leaves_a_beginning(rt: HostRuntime) {
     let Ok(words) = texts(rt.alloc(), &["solve", "pattern", "5x1:1/1//1/1/2.2"]) else {

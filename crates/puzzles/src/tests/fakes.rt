@@ -1,8 +1,7 @@
 //! Runs of the program over readers and writers of the tests' own.
-use crate::ends::read_end::ReadEnd;
-use crate::ends::write_end::WriteEnd;
 use crate::run::{run, run_on_bytes};
 use commands::{Sink, Source};
+use ends::{ReadEnd, WriteEnd};
 use std::alloc::{AllocError, Global};
 use std::io;
 use std::io::{ErrorKind, Read, Write};
@@ -36,9 +35,20 @@ impl Ends {
 /// A reader of some bytes, which cuts as the ends say.
 #[derive(Drop)]
 pub struct Chunks<'a> {
-    pub rest: &'a [u8],
-    pub ends: Ends,
-    pub calls: u32,
+    rest: &'a [u8],
+    ends: Ends,
+    calls: u32,
+}
+
+impl Chunks<'_> {
+    /// A reader of these bytes.
+    pub fn of(rest: &[u8], ends: Ends) -> Chunks<'_> {
+        Chunks {
+            rest,
+            ends,
+            calls: 0,
+        }
+    }
 }
 
 impl Read for Chunks<'_> {
@@ -118,11 +128,7 @@ pub struct Did {
 
 /// A run over such ends: what it did, and what it wrote.
 pub fn observe(alloc: Global, words: &[String], input: &[u8], ends: Ends) -> (Did, Vec<u8>) {
-    let mut source = ReadEnd::new(Chunks {
-        rest: input,
-        ends,
-        calls: 0,
-    });
+    let mut source = ReadEnd::new(Chunks::of(input, ends));
     let mut sink = WriteEnd::new(Slow {
         taken: Vec::new(alloc),
         ends,

@@ -1,5 +1,6 @@
 //! Whole runs. What they are to write follows from the rules and the formats by hand. A line of a
 //! table has runs that write the same, with ` ; ` between them, as `Row::read` says of each.
+use crate::run::run_on_bytes;
 use crate::tests::rows::Row;
 use std::alloc::Global;
 use std::test::Fail;
@@ -20,15 +21,20 @@ solve pattern 2x2:1/1/1/1 ; solve pattern 2x2:1/1/1/1 --budget 2 ; \
 solve pattern 3x2:1/2/1/2/2 > 3 several|.##|##.||##.|.##|
 solve pattern 2x3:3/1.1/2/1/2 > 0 one|##|#.|##|
 solve pattern 3x1:1/1/1/2.1 > 2 refused: line 3 too full|
-solve solo 2x2x: --budget 0 > 2 refused: too few|
+solve solo 2x2x: --budget 0 ; solve solo 2x2:o ; solve solo 2x2: ; \
+    solve pattern 2x2:1/1/1 > 2 refused: too few|
+solve solo 2x2:q ; solve pattern 2x2:1/1/1/1/ > 2 refused: too many|
+solve solo 2x2:0o > 2 refused: bad byte at 4|
+solve pattern 2x2:1./1/1/1 > 2 refused: bad byte at 5|
 solve tents 4x6:z,0,0,0,0,0,0,0,0,0,0 --budget 0 > 2 refused: too many|
 solve pattern 2x2:1/1/1/1,# > 2 refused: bad byte at 11|
 solve pattern 1x1:0/ ; solve solo 2x2:5o > 2 refused: number range at 4|
-solve pattern 3x3#12 > 2 refused: seed id|
-solve pattern '' ; solve solo 2x2 > 2 refused: no colon|
-solve solo 02x2:p > 2 refused: bad size|
-solve solo 2x2k:p ; solve pattern 2x2x:/// > 2 refused: variant|
-solve solo 6x6x:p --budget 0 > 2 refused: size range|
+solve pattern 3x3#12 ; solve solo 3x3#12 > 2 refused: seed id|
+solve solo 2x2 > 2 refused: no colon|
+solve solo 02x2:p ; solve solo 2x:p ; solve solo 9x:p ; solve solo 2xx2:p > 2 refused: bad size|
+solve solo 2x2k:p ; solve pattern 2x2x:/// ; solve solo 9j:p ; solve solo 2x2xx:p ; \
+    solve solo 2x2xj:p ; solve solo 2x2kx:p > 2 refused: variant|
+solve solo 6x6x:p --budget 0 ; solve solo 1x4:p ; solve solo 6x6:p > 2 refused: size range|
 solve solo 2x2:1_2_3_4_3_4_1_2_2_1_4_3_4_3_2_1 ; solve solo 2x2:1b4i3_2a ; \
     solve solo 2x2:1_2_3_4_3_4_1_2_2_1_4_3_4_3_2_1 --budget 0 \
     > 0 one|1 2 3 4|3 4 1 2|2 1 4 3|4 3 2 1|
@@ -62,9 +68,24 @@ solve solo 2x2x:1_2_3_4l --budget 1 ; \
 solve solo 2x2x:1_2_3_4_3k --budget 0 > 0 one|1 2 3 4|3 4 1 2|4 3 2 1|2 1 4 3|
 ";
 
+/// The beginnings of an ID.
+const CUT: &str = "\
+solve pattern '' ; solve pattern 5 ; solve pattern 5x ; solve pattern 5x1 > 2 refused: no colon|
+solve pattern 5x1: ; solve pattern 5x1:1 ; solve pattern 5x1:1/ ; solve pattern 5x1:1/1 ; \
+    solve pattern 5x1:1/1/ ; solve pattern 5x1:1/1// ; solve pattern 5x1:1/1//1 ; \
+    solve pattern 5x1:1/1//1/ ; solve pattern 5x1:1/1//1/1 > 2 refused: too few|
+solve pattern 5x1:1/1//1/1/ ; solve pattern 5x1:1/1//1/1/2 > 1 none|
+solve pattern 5x1:1/1//1/1/2. > 2 refused: bad byte at 14|
+";
+
 /// Long IDs: the most is 65,536 bytes.
 const LONG: &str = "\
-solve solo 2x2:(65531:_)p \
+solve solo 2x2:(10000:z) > 2 refused: too many|
+solve solo 2x2:(16000:9) > 2 refused: number range at 4|
+solve solo (16000:9)x2:p ; solve pattern 121x1:(121:/) > 2 refused: size range|
+solve pattern 1x1:(16000:0)1/1 > 0 one|#|
+solve pattern 1x1:(16000:9)/1 > 2 refused: line 0 too full|
+solve solo 2x2:(16379:_)p ; solve solo 2x2:(16380:_)p ; solve solo 2x2:(65531:_)p \
     > 3 several|1 2 3 4|3 4 1 2|2 1 4 3|4 3 2 1||1 2 3 4|3 4 1 2|2 3 4 1|4 1 2 3|
 solve solo 2x2:(65532:_)p > 2 refused: too long|
 ";
@@ -76,6 +97,18 @@ solve pattern 70x2:1/1(68:/)/1/1 > 3 several|.#(68:.)|#.(68:.)||#.(68:.)|.#(68:.
 grade lightup 120x2:(240:B) --budget 0 ; grade tents 120x2:zzzzzzzzzo(122:,0) > 0 local|
 solve lightup 120x2:(240:B) > 0 one|(120:#)|(120:#)|
 solve tents 120x2:zzzzzzzzzo(122:,0) > 0 one|(120:.)|(120:.)|
+solve lightup 70x2:Ba(68:B)b(68:B) > 3 several|#.(68:#)|.O(68:#)||#O(68:#)|O.(68:#)|
+solve lightup 70x2:2a(68:B)b(68:B) --budget 0 > 0 one|2O(68:#)|O.(68:#)|
+solve lightup 70x2:1a(68:B)b(68:B) --budget 2 > 1 none|
+solve lightup 70x2:1a(68:B)b(68:B) --budget 1 > 4 gave up|
+solve lightup 70x3:aBB(67:B)a1a(67:B)Bb(67:B) --budget 4 > 0 one|.##(67:#)|O1.(67:#)|#.O(67:#)|
+solve lightup 70x3:aBB(67:B)a1a(67:B)Bb(67:B) --budget 3 > 4 gave up|.##(67:#)|O1.(67:#)|#.O(67:#)|
+solve tents 70x3:zztbzzzzzk,1,0,0,1(66:,0),1,0,1 \
+    > 3 several|...^(66:.)|T..T(66:.)|^(69:.)||^(69:.)|T..T(66:.)|...^(66:.)|
+solve tents 70x3:zztbzzzzzk,1,0,0,1(66:,0),1,0,1 --budget 1 \
+    > 4 gave up|...^(66:.)|T..T(66:.)|^(69:.)|
+solve tents 70x3:azzsazzzzzk,1,0,1,1(66:,0),1,1,1 --budget 0 \
+    > 0 one|.T^(67:.)|^T.T(66:.)|...^(66:.)|
 generate pattern 120x120 --seed 1 --black 100 > 0 120x120:(239:120/)120|(120:(120:#)|)
 generate pattern 121x120 --seed 1 --black 100 > 2 refused: size range|
 ";
@@ -164,24 +197,29 @@ grade solo 2x3x:g2c4c3d1l5b --budget 0 > 0 crossings|
 grade solo 2x2x:1_2_3_4_3k --budget 0 > 0 singles|
 grade lightup 2x2:2c --budget 0 > 0 local|
 grade tents 2x2:_c,0,1,1,0 --budget 0 > 0 local|
-grade pattern 2x2:1/1/1/1 --budget 100000 > 3 several|
+grade pattern 2:01/1/1/001 --budget 100000 ; grade pattern 2x2:1/1/1/1 --budget 100000 > 3 several|
 grade pattern 2x2:1/1/1/1 --budget 1 > 4 gave up|
 grade pattern 2x1:1/1/1 --budget 0 > 1 none|
 grade tents 5x3:aiaa,1,0,2,0,0,2,0,1 --budget 100000 > 1 none|
 grade lightup 3x3:aBBa1aBb --budget 100000 > 0 search 4|
 grade lightup 3x3:aBBa1aBb --budget 4 > 0 search 4|
 grade lightup 3x3:aBBa1aBb --budget 3 > 4 gave up|
-grade solo 2x2:p --budget 100000 > 3 several|
+grade solo 2:aan --budget 100000 ; grade solo 2x2:p --budget 100000 > 3 several|
 grade solo 2x2:1_1n --budget 0 > 1 none|
 grade solo 2x2:q --budget 0 > 2 refused: too many|
 grade tents 3x3 --budget 0 > 2 refused: no colon|
 ";
 
-/// Puzzles that are made of each seed, and what is not made.
+/// Puzzles that are made of each seed, and what is not made. The 16 words of the first block of ChaCha8 for a key of zeros
+/// are published; drawn below 100 they are 18, 83, 90, 63, 76, 23, 53, 11, 44, 25, 40, 9, 63, 0, 72 and 26. For a key that
+/// begins with 1 the first draw is 62.
 const MAKINGS: &str = "\
 generate pattern 2x2 --seed 1 --black 100 > 0 2x2:2/2/2/2|##|##|
 generate pattern 2x2 --seed 1 --black 0 > 0 2x2:///|..|..|
 generate lightup 2x2 --seed 1 --black 100 > 0 2x2:BBBB|##|##|
+generate pattern 16x1 --seed 0 > 0 16x1:1/////1//1/1/1/1/1//1//1/1.1.5.1.1|#....#.#####.#.#|
+generate pattern 1x1 --seed 1 --black 62 > 0 1x1:/|.|
+generate pattern 1x1 --seed 1 --black 63 > 0 1x1:1/1|#|
 generate lightup 2x2 --seed 1 --black 0 ; generate solo 2x2 --seed 1 --tries 0 ; \
     generate lightup 2x2 --seed 1 --black 100 --tries 0 ; \
     generate pattern 2x2 --seed 1 --tries 0 ; generate tents 6x6 --seed 1 --tries 0 ; \
@@ -227,8 +265,28 @@ fn untold_in(alloc: Global, table: &str) -> Result<Option<&str>, Fail> {
 
 #[test]
 fn runs_tell_what_is_allowed(rt: HostRuntime) -> Result<(), Fail> {
-    for table in [SOLVES, LINES, CHECKS, UNREAD, GRADES, MAKINGS, REFUSED] {
+    for table in [SOLVES, CUT, LINES, CHECKS, UNREAD, GRADES, MAKINGS, REFUSED] {
         assert_eq!(rt; untold_in(rt.alloc(), table)?, None);
+    }
+    Ok(())
+}
+
+/// Whether a grade with a trace begins as the one without, and a trace follows unless it was refused.
+fn begins_alike(alloc: Global, asked: &str, told: &str) -> Result<bool, Fail> {
+    let mut row = Row::of(alloc, asked, told)?;
+    row.words.push(String::from_str(alloc, "--trace")?)?;
+    let (taken, status) = run_on_bytes(alloc, &row.words, b"unread");
+    let is_alike = taken.starts_with(row.text.as_bytes()) && status == row.status;
+    Ok(is_alike && (taken.len() > row.text.len()) == (status != 2))
+}
+
+#[test]
+fn grades_with_traces_begin_alike(rt: HostRuntime) -> Result<(), Fail> {
+    for line in GRADES.lines() {
+        let (runs, told) = line.split_once(" > ").ok_or("an answer")?;
+        for asked in runs.split(" ; ") {
+            assert!(rt; begins_alike(rt.alloc(), asked, told)?, "{asked}");
+        }
     }
     Ok(())
 }

@@ -3,7 +3,7 @@ ghost use Rattle.std.specs.Prelude.{IfOk};
 ghost use Rattle.engine_core.specs.RuleSystem.{IsBoardOf};
 
 use crate::tests::fakes::outcome;
-use engine_core::{Rules, Searchable, Store};
+use engine_core::{Mode, Rules, Searchable, Store};
 use fields_core::{LightRules, TentRules};
 use gameid_core::{SoloPuzzle, read_lights, read_pattern, read_solo, read_tents};
 use grid_core::Board;
@@ -42,19 +42,26 @@ fn number_in(line: &str, kinds: &[&str], per_kind: usize, houses: usize) -> Opti
     }
 }
 
-/// The start board after visits of these houses.
-fn replayed<R: Rules>(alloc: Global, rules: &R, visits: &[usize]) -> Result<Board, AllocError>
-    ensures { IfOk result (λ board. IsBoardOf (R.system rules.now) board) }
+/// The start board after visits of these houses, and the most visits one after another that struck nothing.
+fn replayed<R: Rules>(
+    alloc: Global,
+    rules: &R,
+    visits: &[usize],
+) -> Result<(Board, usize), AllocError>
+    ensures { IfOk result (λ told. IsBoardOf (R.system rules.now) told.0) }
 {
     let mut board = Board::new(alloc, rules.cells(), rules.values())?;
     let mut scratch = rules.scratch(alloc)?;
+    let (mut idle, mut most_idle) = (0usize, 0usize);
     rules.start(&mut board);
     for house in visits {
         if *house < rules.houses() {
-            rules.visit(*house, &mut board, &mut scratch);
+            let struck = rules.visit(*house, &mut board, &mut scratch);
+            idle = if struck { 0 } else { idle.saturating_add(1) };
+            most_idle = most_idle.max(idle);
         }
     }
-    Ok(board)
+    Ok((board, most_idle))
 }
 
 /// Whether both boards of a puzzle have the same values in the same cells.
@@ -70,19 +77,21 @@ fn are_same<R: Rules>(rules: &R, one: &Board, other: &Board) -> bool
     true
 }
 
-/// Whether a closing by the rules leaves the board that these visits leave.
+/// Whether a closing by the rules leaves the board that these visits leave, and no house was visited twice without a strike
+/// between.
 fn is_closed_by<R: Searchable>(
     alloc: Global,
     rules: &R,
     visits: &[usize],
 ) -> Result<bool, AllocError> {
-    let board = replayed(alloc, rules, visits)?;
+    let (board, most_idle) = replayed(alloc, rules, visits)?;
     let mut store = Store::new(alloc, rules)?;
     store.close(rules);
-    Ok(are_same(rules, &board, store.board()))
+    Ok(most_idle <= rules.houses() && are_same(rules, &board, store.board()))
 }
 
-/// Whether the visits close the board of a puzzle by these rules, and whether no visits do, as is told.
+/// Whether these visits, within the bound, close the board of a puzzle, and whether no visits do, as is told. Sweeps have the
+/// bound together.
 fn closes<R: Searchable>(
     alloc: Global,
     rules: &R,
@@ -90,18 +99,32 @@ fn closes<R: Searchable>(
     by_none: bool,
 ) -> Result<bool, AllocError> {
     let houses = rules.houses();
-    let are_houses = visits.iter().all(|visit| *visit < houses);
+    let most = match R::MODE {
+        Mode::Queue => rules.bound(),
+        Mode::Sweep => rules.bound().saturating_mul(houses),
+    };
+    let are_visits = visits.len() <= most && visits.iter().all(|visit| *visit < houses);
     let is_closed = is_closed_by(alloc, rules, visits)?;
-    Ok(are_houses && is_closed && is_closed_by(alloc, rules, &[])? == by_none)
+    Ok(are_visits && is_closed && is_closed_by(alloc, rules, &[])? == by_none)
+}
+
+/// The status of a grade.
+fn status_of(grade: &str) -> u8 {
+    match grade {
+        "none" => 1,
+        "several" => 3,
+        "gave up" => 4,
+        _ => 0,
+    }
 }
 
 /// What a grade with a trace tells after this line.
 fn traced(alloc: Global, [game, id, budget, grade]: [&str; 4]) -> Result<String, Fail> {
-    let (taken, _) = outcome(
-        alloc,
-        &["grade", game, id, "--budget", budget, "--trace"],
-        b"unread",
-    )?;
+    let words = ["grade", game, id, "--budget", budget, "--trace"];
+    let (taken, status) = outcome(alloc, &words, b"unread")?;
+    if status != status_of(grade) {
+        return Ok(Err("the status of the grade")?);
+    }
     let text = str::from_utf8(taken.as_slice())?;
     let rest = text.strip_prefix(grade).ok_or("the grade")?;
     Ok(String::from_str(alloc, rest.strip_prefix('\n').ok_or("a line end")?)?)
@@ -123,24 +146,26 @@ fn visits_in(
 }
 
 /// Whether the visits that these lines tell close the board of a puzzle of Pattern.
-fn pattern_closes(alloc: Global, id: &str, lines: &str) -> Result<bool, Fail> {
+fn pattern_closes(alloc: Global, id: &str, lines: &str, by_none: bool) -> Result<bool, Fail> {
     let puzzle = read_pattern(alloc, id.as_bytes())?;
     let columns = usize::from(puzzle.size().w());
     let rules = PatternLines::new(alloc, &puzzle)?;
     let visits = visits_in(alloc, lines, &["column", "row"], columns, rules.houses())?;
-    Ok(closes(alloc, &rules, &visits, false)?)
+    Ok(closes(alloc, &rules, &visits, by_none)?)
 }
 
 #[test]
 fn traces_of_pattern_close_their_boards(rt: HostRuntime) -> Result<(), Fail> {
-    for (id, budget, grade) in [
-        ("5x1:1/1//1/1/2.2", "0", "lines"),
-        ("3x2:1/2/1/2/2", "2", "several"),
-        ("3x2:1/2/1/2/2", "0", "gave up"),
-        ("2x1:1/1/1", "0", "none"),
+    for (id, budget, grade, by_none) in [
+        ("5x1:1/1//1/1/2.2", "0", "lines", false),
+        ("3x2:1/2/1/2/2", "2", "several", false),
+        ("3x2:1/2/1/2/2", "0", "gave up", false),
+        ("2x1:1/1/1", "0", "none", false),
+        ("2x2:1/1/1/1", "100000", "several", true),
+        ("2x2:1/1/1/1", "1", "gave up", true),
     ] {
         let lines = traced(rt.alloc(), ["pattern", id, budget, grade])?;
-        let is_closed = pattern_closes(rt.alloc(), id, &lines)?;
+        let is_closed = pattern_closes(rt.alloc(), id, &lines, by_none)?;
         assert!(rt; is_closed, "{id} with {budget}");
     }
     Ok(())
@@ -201,19 +226,30 @@ fn sweeps_told(alloc: Global, words: [&str; 4]) -> Result<usize, Fail> {
     Ok(digits.parse::<usize>()?)
 }
 
-/// Whether so many sweeps close the board of a puzzle by these rules, and none leave it open.
-fn sweeps_close<R: Searchable>(
-    alloc: Global,
-    rules: &R,
-    sweeps: usize,
-) -> Result<bool, AllocError> {
+/// The visits of so many sweeps.
+fn swept<R: Rules>(alloc: Global, rules: &R, sweeps: usize) -> Result<Vec<usize>, AllocError> {
     let mut visits = Vec::new(alloc);
     for _sweep in 0..sweeps {
         for house in 0..rules.houses() {
             visits.push(house)?;
         }
     }
-    closes(alloc, rules, &visits, false)
+    Ok(visits)
+}
+
+/// Whether so many sweeps close the board of a puzzle by these rules, none leave it open, and all but the last strike something.
+fn sweeps_close<R: Searchable>(
+    alloc: Global,
+    rules: &R,
+    sweeps: usize,
+) -> Result<bool, AllocError> {
+    let visits = swept(alloc, rules, sweeps)?;
+    let struck = visits.len().saturating_sub(rules.houses());
+    let before = struck.saturating_sub(rules.houses());
+    let (early, _) = replayed(alloc, rules, &visits[..before.min(visits.len())])?;
+    let (late, _) = replayed(alloc, rules, &visits[..struck.min(visits.len())])?;
+    let needed = before == struck || !are_same(rules, &early, &late);
+    Ok(needed && closes(alloc, rules, &visits, false)?)
 }
 
 /// The rules of a puzzle of Light Up.

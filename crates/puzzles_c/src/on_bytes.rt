@@ -1,0 +1,56 @@
+//! Commands that read an input or write as they go, over bytes in memory.
+ghost use Rattle.std.specs.Prelude.{◌≡◌, ◌<◌, ◌≤◌, [], None, Some};
+ghost use Rattle.commands.specs.Allowed.{Allows};
+ghost use Rattle.commands.specs.Answers.{answer_of, check, grade, solve};
+ghost use Rattle.commands.specs.Stops.{status_in};
+
+use commands::{BROKEN, GradeOptions, NO_MEMORY, RunResult, Task, check_id, grade_id, solve_lines};
+use ends::{ReadEnd, WriteEnd};
+use gameid_core::Game;
+use std::alloc::Global;
+
+/// The number of a result.
+fn code(ended: RunResult) -> u8
+    ensures { result ≡ status_in ended }
+{
+    match ended {
+        Ok(status) => status.code(),
+        Err(stop) => stop.code(),
+    }
+}
+
+/// What is said of a grid, with the status.
+pub fn checked(alloc: Global, game: Game, id: &[u8], grid: &[u8]) -> (Vec<u8>, u8)
+    ensures within { result.1 ≤ BROKEN }
+    ensures whole { result.1 < NO_MEMORY
+        → Allows (Some (check game id.now)) grid.now (answer_of result) }
+{
+    let mut input = ReadEnd::new(grid);
+    let mut output = WriteEnd::new(Vec::new(alloc));
+    let ended = check_id(alloc, game, id, &mut input, &mut output);
+    (output.into_inner(), code(ended))
+}
+
+/// The grade of a puzzle, with the status.
+pub fn graded(alloc: Global, game: Game, id: &[u8], options: GradeOptions) -> (Vec<u8>, u8)
+    ensures within { result.1 ≤ BROKEN }
+    ensures whole { result.1 < NO_MEMORY
+        → Allows (Some (grade game id.now options.budget options.traced)) []
+        (answer_of result) }
+{
+    let mut output = WriteEnd::new(Vec::new(alloc));
+    let ended = grade_id(alloc, game, id, options, &mut output);
+    (output.into_inner(), code(ended))
+}
+
+/// The verdicts of the puzzles whose IDs are lines, with the status.
+pub fn solved_each(alloc: Global, task: Task, lines: &[u8]) -> (Vec<u8>, u8)
+    ensures within { result.1 ≤ BROKEN }
+    ensures whole { result.1 < NO_MEMORY
+        → Allows (Some (solve task.game None task.budget)) lines.now (answer_of result) }
+{
+    let mut input = ReadEnd::new(lines);
+    let mut output = WriteEnd::new(Vec::new(alloc));
+    let ended = solve_lines(alloc, task, &mut input, &mut output);
+    (output.into_inner(), code(ended))
+}

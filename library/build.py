@@ -1,0 +1,86 @@
+#!/usr/bin/env python3
+"""Proves the library for C and builds it: for any process, and for browsers.
+
+usage: library/build.py [--to FOLDER] [--kit KIT] [--jobs N] [so] [wasm]
+
+so      libpuzzles.so and puzzles.h; needs cc
+wasm    puzzles.wasm and puzzles.js; needs wasm-ld and wasm-opt (Debian's lld and binaryen)
+
+Without a word it makes both. FOLDER is library/out unless it is said, and a file gets its name there once it is whole. KIT is the
+folder of Rattle's kit, and else the one that `rt doc` names.
+
+Both come of one run of `rt lib` in crates/puzzles_c, which proves what isn't proved here. From nothing that takes what a first
+build of the program takes (bench/README.md). The module is what this run hands to the kit's clang, compiled for WebAssembly:
+Rattle itself makes no module that takes memory.
+The status is 0 if all is made, 1 if a step fails, and 2 if something is missing.
+"""
+import argparse
+import os
+import pathlib
+import shutil
+import sys
+import tempfile
+
+sys.dont_write_bytecode = True
+from kit import Failed, Kit, run  # noqa: E402
+from module import build_module  # noqa: E402
+
+HERE = pathlib.Path(__file__).resolve().parent
+CRATE = HERE.parent / "crates" / "puzzles_c"
+TOOLS = {"so": ["cc"], "wasm": ["wasm-ld", "wasm-opt"]}
+EXPORTS = "{ global: puzzles_*; local: *; };\n"
+
+
+def build_shared(kit, archive, room):
+    """The shared library of the proved one and of the kit's calls for memory. Nothing but the calls is exported."""
+    exports, made = room / "exports", room / "libpuzzles.so"
+    exports.write_text(EXPORTS)
+    run(["cc", "-shared", "-o", made, "-Wl,-soname,libpuzzles.so", "-Wl,--whole-archive", archive, "-Wl,--no-whole-archive",
+         kit.heap, "-Wl,--gc-sections", "-Wl,-z,defs", "-Wl,-z,now", "-Wl,-z,noexecstack", f"-Wl,--version-script={exports}"])
+    return [made, HERE / "puzzles.h"]
+
+
+def hand_over(file, folder):
+    """Puts a file into a folder, whole or not at all."""
+    part = folder / f".{file.name}.part"
+    shutil.copyfile(file, part)
+    os.replace(part, folder / file.name)
+    print(f"{folder / file.name}: {(folder / file.name).stat().st_size:,} bytes", flush=True)
+
+
+def build(asked, room):
+    kit = Kit(asked.kit)
+    print(f"proves and builds {CRATE.name}; what `rt` says goes to {asked.to}/build.log", file=sys.stderr)
+    kit.make_library(CRATE, room, asked.jobs, asked.to / "build.log")
+    made = build_shared(kit, CRATE / "out" / "libpuzzles_c.a", room) if "so" in asked.parts else []
+    if "wasm" in asked.parts:
+        made += [build_module(kit, room), HERE / "puzzles.js"]
+    for file in made:
+        hand_over(file, asked.to)
+
+
+def main():
+    form = argparse.ArgumentParser(description=__doc__, formatter_class=argparse.RawDescriptionHelpFormatter)
+    form.add_argument("--to", metavar="FOLDER", type=pathlib.Path, default=HERE / "out")
+    form.add_argument("--kit", metavar="KIT", type=pathlib.Path)
+    form.add_argument("--jobs", metavar="N", type=int, default=2)
+    form.add_argument("parts", nargs="*", metavar="so, wasm")
+    asked = form.parse_args()
+    asked.parts, asked.to = asked.parts or list(TOOLS), asked.to.absolute()
+    if unknown := set(asked.parts) - set(TOOLS):
+        form.error(f"no part of the library: {', '.join(sorted(unknown))}")
+    missing = [tool for part in asked.parts for tool in TOOLS[part] if not shutil.which(tool)]
+    if missing:
+        form.error(f"needed and not found: {', '.join(missing)}")
+    try:
+        asked.to.mkdir(parents=True, exist_ok=True)
+        with tempfile.TemporaryDirectory(prefix="puzzles-library-") as room:
+            build(asked, pathlib.Path(room))
+    except (Failed, OSError) as fault:
+        sys.exit(f"build.py: {fault}")
+    except KeyboardInterrupt:
+        sys.exit(130)
+
+
+if __name__ == "__main__":
+    main()

@@ -1,0 +1,119 @@
+// The proved library as a WebAssembly module, in a page, a worker or Node. Each call gives what the program would write, and
+// its status. 5 and 6, with no text, are a full memory. A call whose module stops in it throws, and the next one is well.
+const GAMES = ["solo", "pattern", "lightup", "tents"], BLACK = { pattern: 50, lightup: 20 };
+const NO_MEMORY = 5, TOO_SMALL = 7, REFUSED = { status: 2, text: "refused: words\n" };
+const FIRST_ROOM = 2 ** 16, KEPT_MEMORY = 2 ** 26;
+const encoder = new TextEncoder(), decoder = new TextDecoder();
+
+class Refused extends Error {}
+class Full extends Error {}
+
+// A number that fits so many bits, as the module takes it; its digits may also stand in a text.
+function number(value, bits) {
+  const isNumber = typeof value === "bigint" || Number.isSafeInteger(value) || (typeof value === "string" && /^\d+$/.test(value));
+  if (!isNumber || BigInt(value) < 0n || BigInt(value) >> BigInt(bits)) throw new Refused();
+  return bits > 32 ? BigInt(value) : Number(value);
+}
+
+async function bytesOf(source) {
+  const given = await source;
+  if (!(given instanceof Response)) return given;
+  if (!given.ok) throw new Error(`${given.url} has status ${given.status}`);
+  return given.arrayBuffer();
+}
+
+export class Puzzles {
+  #module;
+  #exports;
+  #room = FIRST_ROOM;
+
+  // Of the bytes of puzzles.wasm, or of what `fetch` gives. It fails with a sentence.
+  static async load(source) {
+    if (typeof WebAssembly !== "object") throw new Error("no WebAssembly here");
+    try {
+      return new Puzzles(await WebAssembly.compile(await bytesOf(source)));
+    } catch (fault) {
+      throw new Error(`puzzles.wasm can't be loaded: ${fault.message}`, { cause: fault });
+    }
+  }
+
+  constructor(module) {
+    this.#module = module;
+    this.#begin();
+    if (!this.#exports.puzzles_solve) throw new Error("another module");
+  }
+
+  solve(game, id, { budget = 100000 } = {}) {
+    return this.#answer("solve", game, () => [id, number(budget, 64)]);
+  }
+
+  // The answers to the IDs that are lines of a text.
+  solveEach(game, lines, { budget = 100000 } = {}) {
+    return this.#answer("solve_each", game, () => [lines, number(budget, 64)]);
+  }
+
+  check(game, id, grid) {
+    return this.#answer("check", game, () => [id, grid]);
+  }
+
+  grade(game, id, { budget = 100000, trace = false } = {}) {
+    return this.#answer("grade", game, () => [id, number(budget, 64), Number(trace)]);
+  }
+
+  generate(game, size, seed, { budget = 100000, tries = 1000, black } = {}) {
+    if (black !== undefined && !(game in BLACK)) return REFUSED;
+    const share = black ?? BLACK[game] ?? 0;
+    return this.#answer("generate", game,
+      () => [size, number(seed, 64), number(budget, 64), number(tries, 32), number(share, 8)]);
+  }
+
+  #begin() {
+    this.#exports = new WebAssembly.Instance(this.#module).exports;
+  }
+
+  // What a call answers to a game and further words, which are texts or numbers.
+  #answer(call, game, words) {
+    try {
+      return this.#whole(call, [number(GAMES.indexOf(game), 8), ...words()]);
+    } catch (fault) {
+      if (fault instanceof Refused) return REFUSED;
+      this.#begin(); // nothing is known of the memory of a module that stopped
+      if (fault instanceof Full) return { status: NO_MEMORY, text: "" };
+      throw new Error(`the module stopped in ${call}: ${fault.message}`, { cause: fault });
+    }
+  }
+
+  // An answer that is longer than its room is asked for again.
+  #whole(call, words) {
+    let status = TOO_SMALL, text = "";
+    while (status === TOO_SMALL) [status, text] = this.#once(call, words);
+    if (this.#exports.memory.buffer.byteLength > KEPT_MEMORY) this.#begin();
+    return { status, text };
+  }
+
+  #once(call, words) {
+    this.#exports.puzzles_clear();
+    const passed = words.flatMap((word) => (["number", "bigint"].includes(typeof word) ? [word] : this.#put(word)));
+    const written = this.#place(8), output = this.#place(this.#room), { memory } = this.#exports;
+    // a status is a byte, and nothing is said of the bits above it
+    const status = this.#exports[`puzzles_${call}`](...passed, output, BigInt(this.#room), written) & 255;
+    const length = Number(new DataView(memory.buffer).getBigUint64(Number(written), true));
+    if (status === TOO_SMALL) this.#room = 2 * length;
+    return [status, status < NO_MEMORY ? decoder.decode(new Uint8Array(memory.buffer, Number(output), length)) : ""];
+  }
+
+  // The address and the length of a text, or of bytes, in the module's memory.
+  #put(text) {
+    const bytes = typeof text === "string" ? encoder.encode(text) : text;
+    if (!(bytes instanceof Uint8Array)) throw new Refused();
+    const address = this.#place(bytes.length);
+    new Uint8Array(this.#exports.memory.buffer).set(bytes, Number(address));
+    return [address, BigInt(bytes.length)];
+  }
+
+  #place(length) {
+    const address = this.#exports.malloc(BigInt(length || 1));
+    if (!address) throw new Full();
+    return address;
+  }
+}
