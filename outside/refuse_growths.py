@@ -171,25 +171,29 @@ def count(results, is_right, name):
     return passed, failed
 
 
-def jobs(programs, are_tests):
-    """A name, a command line, an input and a judge for each run or test."""
+def jobs(programs, are_tests, only):
+    """A name, a command line, an input and a judge for each run or test whose name has the text."""
     if not are_tests:
         for line, given, text, status in RUNS:
             judge = lambda number, found, ample, t=text, s=status: is_right_run(number, found, ample, t, s)
-            yield line, [programs[0], *line.split()], given, judge
+            if only in line:
+                yield line, [programs[0], *line.split()], given, judge
         return
     for program in programs:
         listed = subprocess.run([program, "--list"], capture_output=True, check=True, text=True, timeout=RUN_SECONDS).stdout
         for line in listed.splitlines():
             if line.endswith(": test"):
                 name = line.removesuffix(": test")
-                yield f"{program} {name}", [program, name], "", is_right_test
+                if only in name:
+                    yield f"{program} {name}", [program, name], "", is_right_test
 
 
 def main():
     form = argparse.ArgumentParser(description=__doc__, formatter_class=argparse.RawDescriptionHelpFormatter)
     form.add_argument("--tests", action="store_true",
                       help="the programs are tests, as `rt test` leaves them: crates/core_tests/out/core_tests_tests")
+    form.add_argument("--only", default="", metavar="TEXT",
+                      help="the runs or tests whose line or name has the text; without it a test of many puzzles takes hours")
     form.add_argument("programs", metavar="PROGRAM", type=program, nargs="+", help="as `rt run` leaves it: crates/puzzles/out/puzzles")
     asked = form.parse_args()
     if len(asked.programs) > 1 and not asked.tests:
@@ -200,7 +204,7 @@ def main():
         passed = failed = 0
         try:
             subprocess.run(["cc", "-shared", "-fPIC", "-o", shim, source, "-ldl"], check=True, timeout=RUN_SECONDS)
-            for name, words, given, is_right in jobs(asked.programs, asked.tests):
+            for name, words, given, is_right in jobs(asked.programs, asked.tests, asked.only):
                 right, wrong = count(refusals(words, given, shim, counted), is_right, name)
                 passed, failed = passed + right, failed + wrong
         except (OSError, subprocess.SubprocessError) as fault:

@@ -3,10 +3,10 @@
 
 usage: search_types.py [--help]
 
-- The types of the crates that a search runs in keep their lists as `Fixed`, whose length stays and which lends no allocator. So no
-  field of them is a list that can grow, a text, a box or an allocator, but for those of KEPT.
-- Two bodies of `Store::solve` that take memory and drop a refusal don't compile. They are tried in a copy of the last commit. It
-  needs the kit on the path, and some seconds for each.
+- The types of the crates that a search runs in, puzzles too, keep their lists as `Fixed`, whose length stays and which lends no
+  allocator. So no field of them is a list that can grow, a text, a box or an allocator, but for those of KEPT.
+- Bodies that take memory and drop a refusal don't compile: two of `Store::solve`, one of a visit of each kind that reads a list
+  or a block of its rules. They are tried in a copy of the last commit. It needs the kit on the path, and some seconds for each.
 
 Prints what it finds; the exit status is 1 where a field is left, or a body compiles.
 """
@@ -15,22 +15,47 @@ import re
 import subprocess
 import sys
 import tempfile
+import typing
 
 TOP = pathlib.Path(__file__).resolve().parent.parent
-CRATES = ("grid_core", "engine_core", "pattern_core", "solo_core", "fields_core")
+CRATES = ("grid_core", "gameid_core", "engine_core", "pattern_core", "solo_core", "fields_core")
+
+
+class Body(typing.NamedTuple):
+    """Lines that take memory, to stand before another line of a file of a crate."""
+
+    name: str
+    place: str
+    before: str
+    lines: str
+
+
 GROWING = re.compile(r"\b(Vec|String|Box|Rc|Global|VecDeque|HashMap|BTreeMap|\w*Alloc\w*)\b")
 KEPT = {
     ("grid_core/src/fixed.rt", "list"): "the list in a `Fixed`, which lends its items alone",
-    ("engine_core/src/houses/list.rt", "places"): "rules grow it while they are made; a search has them by `&`",
+    ("engine_core/src/houses/list.rt", "places"): "houses that are still being listed; rules have them as a `FrozenList`",
     ("engine_core/src/houses/list.rt", "ends"): "the same",
-    ("pattern_core/src/lines.rt", "rows"): "one block, taken with the scratch",
+    ("gameid_core/src/pattern/clues.rt", "numbers"): "clues of a puzzle of Pattern, which its rules don't keep",
+    ("gameid_core/src/pattern/clues.rt", "ends"): "the same",
+    ("pattern_core/src/line_scratch.rt", "rows"): "one block, which lends its rows alone",
 }
 SOLVE = "        self.search.run(rules, &mut self.position, budget)\n"
-BODIES = {
-    "a list that grows": "        let _full = self.search.levels.frames.reserve(1);\n",
-    "a copy of a board": "        let alloc = *self.search.levels.frames.allocator();\n"
-                         "        let _copy = Grid::new(alloc, rules.cells());\n",
-}
+BODIES = (
+    Body("a list that grows", "engine_core/src/store.rt", SOLVE,
+         "        let _full = self.search.levels.frames.reserve(1);\n"),
+    Body("a copy of a board", "engine_core/src/store.rt", SOLVE,
+         "        let alloc = *self.search.levels.frames.allocator();\n"
+         "        let _copy = Grid::new(alloc, rules.cells());\n"),
+    Body("a list by the allocator of the houses", "engine_core/src/houses/list.rt",
+         "        &places[begin(ends, house)..ends[house]]\n",
+         "        let _list = Vec::<u32>::with_capacity(*self.places.allocator(), 1);\n"),
+    Body("a list by the allocator of a line's rows", "pattern_core/src/planes/visit.rt",
+         "    let size = rules.size();\n",
+         "    let _list = Vec::<u32>::with_capacity(*Box::allocator(&scratch.rows), 1);\n"),
+    Body("a list by the allocator of a puzzle", "gameid_core/src/solo/puzzle.rt",
+         "        self.givens[place]\n",
+         "        let _list = Vec::<u32>::with_capacity(*self.givens.allocator(), 1);\n"),
+)
 CHECK_SECONDS = 300
 
 
@@ -50,17 +75,18 @@ def left_fields():
                     yield f"{place}: {name}: {kind}"
 
 
-def refusal(folder, body):
-    """What the compiler says of `Store::solve` with that body, or none if it says nothing of it."""
-    store = pathlib.Path(folder) / "crates/engine_core/src/store.rt"
-    text = store.read_text(encoding="utf-8")
-    if text.count(SOLVE) != 1:
-        sys.exit("search_types.py: `Store::solve` has another body than this script knows")
-    store.write_text(text.replace(SOLVE, body + SOLVE), encoding="utf-8")
-    done = subprocess.run(["rt", "check"], cwd=store.parent.parent, text=True, timeout=CHECK_SECONDS,
+def refusal(crates, body):
+    """What the compiler says of the file with that body, or none if it says nothing of it."""
+    path = crates / body.place
+    text = path.read_text(encoding="utf-8")
+    if text.count(body.before) != 1:
+        sys.exit(f"search_types.py: {body.place} has another text than this script knows")
+    path.write_text(text.replace(body.before, body.lines + body.before), encoding="utf-8")
+    crate, place = body.place.split("/", 1)
+    done = subprocess.run(["rt", "check"], cwd=crates / crate, text=True, timeout=CHECK_SECONDS,
                           stdout=subprocess.PIPE, stderr=subprocess.STDOUT)
-    store.write_text(text, encoding="utf-8")
-    said = re.search(r"(?m)^src/store\.rt:\d+:\d+: error.*", done.stdout)
+    path.write_text(text, encoding="utf-8")
+    said = re.search(rf"(?m)^{re.escape(place)}:\d+:\d+: error.*", done.stdout)
     return said[0] if said and done.returncode else None
 
 
@@ -76,9 +102,9 @@ def main():
         faults += 1
     with tempfile.TemporaryDirectory() as folder:
         subprocess.run(["git", "clone", "--quiet", TOP, folder], check=True, timeout=CHECK_SECONDS)
-        for name, body in BODIES.items():
-            said = refusal(folder, body)
-            print(f"{name}: {said or 'it compiles'}")
+        for body in BODIES:
+            said = refusal(pathlib.Path(folder) / "crates", body)
+            print(f"{body.name}: {said or 'it compiles'}", flush=True)
             faults += said is None
     print(f"{faults} faults")
     sys.exit(faults > 0)

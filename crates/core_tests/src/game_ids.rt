@@ -55,7 +55,7 @@ fn written_again(alloc: Global, game: Game, text: &[u8]) -> Result<String, IdFau
 }
 
 /// A text of a front, so many copies of a piece, and an end.
-fn long_text(
+pub(crate) fn long_text(
     alloc: Global,
     front: &str,
     piece: &str,

@@ -80,10 +80,29 @@ fn lefts_are_paired_or_short(rt: HostRuntime) -> Result<(), Fail> {
     Ok(())
 }
 
-/// The numbers of a grid of three cells at first, and how many there are.
-fn new_grid(alloc: Global) -> Result<([u8; 3], usize), AllocError> {
-    let grid = Grid::new(alloc, 3)?;
-    Ok(([grid.get(0), grid.get(1), grid.get(2)], grid.len()))
+/// A grid of these numbers, each a digit.
+pub(crate) fn grid_of(alloc: Global, digits: &str) -> Result<Grid, AllocError> {
+    let mut grid = Grid::new(alloc, digits.len())?;
+    for (place, digit) in digits.bytes().enumerate() {
+        if place < grid.len() {
+            grid.set(place, digit.saturating_sub(b'0'));
+        }
+    }
+    Ok(grid)
+}
+
+/// The numbers of a grid of three cells at first, how many there are, and whether it fits 3 cells of 1 value and 2 cells;
+/// and whether it fits 5 and 4 values with a 4 in it.
+fn new_grid(alloc: Global) -> Result<([u8; 3], usize, [bool; 4]), AllocError> {
+    let mut grid = Grid::new(alloc, 3)?;
+    let (numbers, len) = ([grid.get(0), grid.get(1), grid.get(2)], grid.len());
+    let first = [grid.fits(3, 1), grid.fits(2, 1)];
+    grid.set(1, 4);
+    Ok((
+        numbers,
+        len,
+        [first[0], first[1], grid.fits(3, 5), grid.fits(3, 4)],
+    ))
 }
 
 /// Of a board of one cell with two values, from which 1 is struck twice: how many values there are at first, whether each
@@ -96,9 +115,29 @@ fn struck_twice(alloc: Global) -> Result<(usize, [bool; 2], bool), AllocError> {
     Ok((count, [strikes, board.strike(0, 1)], full))
 }
 
+/// Of a board like that, which loses both values: whether a cell is empty then, whether it has a value that is restored,
+/// whether it is full, and the counts when it is filled again, when it keeps 1 alone, and of another that takes it over.
+fn restored(alloc: Global) -> Result<([bool; 3], [usize; 3]), AllocError> {
+    let (mut board, mut other) = (Board::new(alloc, 1, 2)?, Board::new(alloc, 1, 2)?);
+    board.strike(0, 0);
+    board.strike(0, 1);
+    let empty = board.has_empty_cell();
+    board.restore(0, 1);
+    let left = [empty, board.has(0, 1), board.is_full()];
+    board.fill();
+    let filled = board.count(0);
+    if board.has(0, 1) {
+        board.keep_only(0, 1);
+    }
+    other.copy_from(&board);
+    Ok((left, [filled, board.count(0), other.count(0)]))
+}
+
 #[test]
 fn grids_begin_with_zeros_and_boards_with_all(rt: HostRuntime) -> Result<(), Fail> {
-    assert_eq!(rt; new_grid(rt.alloc())?, ([0, 0, 0], 3));
+    let fits = [true, false, true, false];
+    assert_eq!(rt; new_grid(rt.alloc())?, ([0, 0, 0], 3, fits));
     assert_eq!(rt; struck_twice(rt.alloc())?, (2, [true, false], true));
+    assert_eq!(rt; restored(rt.alloc())?, ([true; 3], [2, 1, 1]));
     Ok(())
 }

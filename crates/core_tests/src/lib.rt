@@ -4,13 +4,19 @@
 #![tactic(auto)]
 
 #[cfg(test)]
-mod fields;
+mod calls;
+#[cfg(test)]
+mod faults;
 #[cfg(test)]
 mod game_ids;
 #[cfg(test)]
 mod grid;
 #[cfg(test)]
+mod houses;
+#[cfg(test)]
 mod makers;
+#[cfg(test)]
+mod own_rules;
 #[cfg(test)]
 mod pattern;
 #[cfg(test)]

@@ -1,10 +1,14 @@
-//! Why clues are left in puzzles that are made, and which can be taken away.
+//! Puzzles that are made, why clues are left in them, and which can be taken away.
 
-use gameid_core::{LightCell, LightPuzzle};
+use fields_core::{TentFault, check_tents};
+use gameid_core::{LightCell, LightPuzzle, write_lights, write_pattern};
 use grid_core::Size;
-use maker_core::{Clued, Limits, Made, MakeFault, Why, make_lights, make_solo};
+use maker_core::{
+    Clued, Limits, Made, MakeFault, Why, make_lights, make_pattern, make_solo, make_tents,
+};
 use rand_chacha::ChaCha8Rng;
-use rand_core::SeedableRng;
+use rand_core::{Rng, SeedableRng};
+use solo_core::{SoloFault, check_solo};
 use std::alloc::{AllocError, Global};
 use std::test::Fail;
 
@@ -15,18 +19,83 @@ fn generator() -> ChaCha8Rng {
     ChaCha8Rng::from_seed(key)
 }
 
-/// Whether some givens of a puzzle of Solo were left, not all, and each for this reason.
-fn all_left(alloc: Global, budget: u64, why: Why) -> Result<bool, MakeFault> {
+/// The first block of ChaCha8 for a key of zeros, as draft-strombergson-chacha-test-vectors has it: its words, least byte first.
+const BLOCK: &str = "3e00ef2f895f40d67f5bb8e81f09a5a12c840ec3ce9a7f3b181be188ef711a1e\
+    984ce172b9216f419f445367456d5619314a42a3da86b001387bfdb80e0cfe42";
+
+#[test]
+fn the_generator_is_chacha8(rt: HostRuntime) -> Result<(), Fail> {
+    let mut generator = ChaCha8Rng::from_seed([0; 32]);
+    let mut block = String::new(rt.alloc());
+    for _word in 0..16 {
+        let word = generator.next_u32().swap_bytes();
+        block.push_str(&format!(in rt.alloc(); "{word:08x}")?)?;
+    }
+    assert_eq!(rt; block.as_str(), BLOCK);
+    Ok(())
+}
+
+/// Whether some givens of a puzzle of Solo, or of Solo X, were left, not all, and each for this reason; and the fault of the
+/// answer.
+fn all_left(
+    alloc: Global,
+    x: bool,
+    budget: u64,
+    why: Why,
+) -> Result<(bool, Option<SoloFault>), MakeFault> {
     let limits = Limits { budget, tries: 1 };
-    let made = make_solo(alloc, 2, 2, false, &mut generator(), limits)?;
+    let made = make_solo(alloc, 2, 2, x, &mut generator(), limits)?;
     let all = made.kept.iter().all(|kept| kept.why == why);
-    Ok(all && !made.kept.is_empty() && made.kept.len() < 16)
+    let some = !made.kept.is_empty() && made.kept.len() < 16;
+    let same = made.puzzle.x() == x;
+    Ok((all && some && same, check_solo(&made.puzzle, &made.answer)))
 }
 
 #[test]
 fn givens_are_left_for_a_reason(rt: HostRuntime) -> Result<(), Fail> {
-    assert!(rt; all_left(rt.alloc(), 0, Why::Budget)?);
-    assert!(rt; all_left(rt.alloc(), 100_000, Why::Needed)?);
+    for (x, budget, why) in [
+        (false, 0, Why::Budget),
+        (false, 100_000, Why::Needed),
+        (true, 100_000, Why::Needed),
+    ] {
+        assert_eq!(rt; all_left(rt.alloc(), x, budget, why)?, (true, None));
+    }
+    Ok(())
+}
+
+/// The IDs of what is made of black cells alone, of Pattern and of Light Up, and how many numbers are left.
+fn all_black(alloc: Global) -> Result<String, Fail> {
+    let (size, limits) = (
+        Size::new(2, 2).unwrap(),
+        Limits {
+            budget: 0,
+            tries: 1,
+        },
+    );
+    let made = make_pattern(alloc, size, 100, &mut generator(), limits)?;
+    let pattern = write_pattern(alloc, &made.puzzle)?;
+    let made = make_lights(alloc, size, 100, &mut generator(), limits)?;
+    let (lights, numbers) = (write_lights(alloc, &made.puzzle)?, made.kept.len());
+    Ok(format!(in alloc; "{pattern} {lights} {numbers}")?)
+}
+
+/// How many trees there are in what is made of Tents of 6 by 6 cells, and the fault of the answer.
+fn tents_made(alloc: Global) -> Result<(usize, Option<TentFault>), MakeFault> {
+    let (size, mut rng) = (Size::new(6, 6).unwrap(), generator());
+    let (budget, tries) = (1_000, 1_000);
+    let made = make_tents(alloc, size, &mut rng, Limits { budget, tries })?;
+    let mut trees = 0usize;
+    for place in 0..made.puzzle.size().cells() {
+        trees = trees.saturating_add(usize::from(made.puzzle.tree(place)));
+    }
+    Ok((trees, check_tents(alloc, &made.puzzle, &made.answer)?))
+}
+
+#[test]
+fn puzzles_are_made(rt: HostRuntime) -> Result<(), Fail> {
+    assert_eq!(rt; all_black(rt.alloc())?.as_str(), "2x2:2/2/2/2 2x2:BBBB 0");
+    let (trees, fault) = tents_made(rt.alloc())?;
+    assert!(rt; 1 <= trees && trees <= 7 && fault.is_none());
     Ok(())
 }
 

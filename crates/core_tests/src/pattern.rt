@@ -117,12 +117,11 @@ impl Row<'_> {
         let (from, open) = (self.from(), self.open());
         let mut row = [[false; small::VALUES]; small::CELLS];
         for k in 0..open {
-            row[k] = [sets[from + k] % 2 == 1, sets[from + k] >= 2, false, false];
+            row[k][0] = sets[from + k] % 2 == 1;
+            row[k][1] = sets[from + k] >= 2;
         }
-        let house = House {
-            members: from_fn(|cell| cell < open),
-            condition: Condition::Runs(lengths(self.clue)),
-        };
+        let clue = Condition::Runs(lengths(self.clue));
+        let house = House::new(from_fn(|cell| cell < open), clue);
         house.strike(&mut row);
         if row[0] == [false; small::VALUES] {
             return [0; CELLS];

@@ -3,37 +3,52 @@
 use crate::rules::{lights, pattern, solo, tents};
 use engine_core::{Searchable, Store, Verdict};
 use gameid_core::Game;
+use grid_core::Grid;
 use solo_core::{Crossings, Fillings};
 use std::alloc::{AllocError, Global};
 use std::test::Fail;
 
-/// How many frames, changes, visits, houses that wait and cells of a scope a new store has room for.
-fn sizes<R: Searchable>(alloc: Global, rules: &R) -> Result<[usize; 5], AllocError> {
-    let sizes = Store::new(alloc, rules)?.sizes();
-    Ok([
-        sizes.frames,
-        sizes.trail,
-        sizes.trace,
-        sizes.queue,
-        sizes.scope,
-    ])
+/// How many frames, changes, visits, houses that wait and cells of a scope a store has room for, if it has the same after a
+/// search, and a new one lends no grid.
+fn sizes<R: Searchable>(alloc: Global, rules: &R) -> Result<Option<[usize; 5]>, AllocError> {
+    let mut store = Store::new(alloc, rules)?;
+    let (sizes, lends) = (
+        store.sizes(),
+        store.first().is_some() || store.second().is_some(),
+    );
+    store.solve(rules, 2);
+    let same = store.sizes() == sizes && !lends;
+    let (frames, trail) = (sizes.frames, sizes.trail);
+    Ok(same.then_some([frames, trail, sizes.trace, sizes.queue, sizes.scope]))
 }
 
 #[test]
 fn stores_have_their_sizes(rt: HostRuntime) -> Result<(), Fail> {
     let lines = pattern(rt.alloc(), "2x2:1/1/1/1")?;
-    assert_eq!(rt; sizes(rt.alloc(), &lines)?, [4, 8, 8, 4, 2]);
+    assert_eq!(rt; sizes(rt.alloc(), &lines)?, Some([4, 8, 8, 4, 2]));
     let diagonals = solo::<Fillings>(rt.alloc(), "2x2x:p")?;
-    assert_eq!(rt; sizes(rt.alloc(), &diagonals)?, [16, 64, 238, 14, 4]);
+    assert_eq!(rt; sizes(rt.alloc(), &diagonals)?, Some([16, 64, 238, 14, 4]));
     let crossings = solo::<Crossings>(rt.alloc(), "2x2:p")?;
-    assert_eq!(rt; sizes(rt.alloc(), &crossings)?, [16, 64, 604, 28, 6]);
+    assert_eq!(rt; sizes(rt.alloc(), &crossings)?, Some([16, 64, 604, 28, 6]));
     let local = lights(rt.alloc(), "2x2:2c")?;
-    assert_eq!(rt; sizes(rt.alloc(), &local)?, [4, 8, 0, 0, 3]);
+    assert_eq!(rt; sizes(rt.alloc(), &local)?, Some([4, 8, 0, 0, 3]));
     Ok(())
 }
 
+/// Whether two grids are lent that have the same numbers, or none.
+fn are_same(one: Option<&Grid>, other: Option<&Grid>) -> bool {
+    match (one, other) {
+        (None, None) => true,
+        (Some(one), Some(other)) => {
+            let cells = one.len().min(other.len());
+            one.len() == other.len() && (0..cells).all(|place| one.get(place) == other.get(place))
+        }
+        _ => false,
+    }
+}
+
 /// The verdict on the second rules in a store that has searched the first, if it has room for them, and whether a new store
-/// counts the same.
+/// counts the same and finds the same grids.
 fn searched_after<R: Searchable>(
     alloc: Global,
     first: &R,
@@ -47,7 +62,9 @@ fn searched_after<R: Searchable>(
     let verdict = used.solve(second, 100);
     let same = fresh.solve(second, 100) == verdict
         && (used.trials(), used.turns(), used.deepest())
-            == (fresh.trials(), fresh.turns(), fresh.deepest());
+            == (fresh.trials(), fresh.turns(), fresh.deepest())
+        && are_same(used.first(), fresh.first())
+        && are_same(used.second(), fresh.second());
     Ok(Some((verdict, same)))
 }
 

@@ -6,7 +6,7 @@ use std::alloc::Global;
 use std::test::Fail;
 
 /// IDs that are refused.
-static FAULTS: [(Game, &str, IdFault); 40] = [
+static FAULTS: [(Game, &str, IdFault); 46] = [
     (Game::Solo, "2x2:5o", IdFault::NumberRange(4)),
     (Game::Solo, "2x2:o", IdFault::TooFew),
     (Game::Solo, "2x2:", IdFault::TooFew),
@@ -34,6 +34,8 @@ static FAULTS: [(Game, &str, IdFault); 40] = [
     (Game::LightUp, "2x2:2c_", IdFault::BadByte(6)),
     (Game::LightUp, "2x2:BBBBB", IdFault::TooMany),
     (Game::LightUp, "2x2:BBB", IdFault::TooFew),
+    (Game::LightUp, "2x2:da", IdFault::TooMany),
+    (Game::LightUp, "2x2:d0", IdFault::TooMany),
     (Game::Tents, "4x6:z,0,0,0,0,0,0,0,0,0,0", IdFault::TooMany),
     (Game::Tents, "2x2:_b,0,1,1,0", IdFault::TooFew),
     (Game::Tents, "2x2:_c,0,1,1", IdFault::TooFew),
@@ -43,6 +45,10 @@ static FAULTS: [(Game, &str, IdFault); 40] = [
     (Game::Tents, "2x2:_c,0,1,1,0_", IdFault::BadByte(14)),
     (Game::Tents, "2x2:_c_,0,1,1,0", IdFault::TooMany),
     (Game::Tents, "2x2:_B,0,1,1,0", IdFault::BadByte(5)),
+    (Game::Tents, "2x2:_d,0,1,1,0", IdFault::TooMany),
+    (Game::Tents, "2x2:_ca,0,1,1,0", IdFault::TooMany),
+    (Game::Tents, "2x2:_c0,1,1,0", IdFault::BadByte(6)),
+    (Game::Tents, "2x2:_c,0,1_1,0", IdFault::BadByte(10)),
     (Game::Pattern, "2x2x:///", IdFault::Variant),
     (Game::Pattern, "121x2x:", IdFault::Variant),
     (Game::LightUp, "2x2x:d", IdFault::Variant),

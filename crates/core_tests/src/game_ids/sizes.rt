@@ -1,12 +1,12 @@
 //! Sizes, and faults before the colon.
 
-use super::fault_of;
+use super::{fault_of, long_text};
 use gameid_core::{Game, IdFault, read_size};
 use std::alloc::Global;
+use std::test::Fail;
 
 /// The faults of a text as an ID of each game.
-fn faults_of(alloc: Global, text: &str) -> [Option<IdFault>; 4] {
-    let text = text.as_bytes();
+fn faults_of(alloc: Global, text: &[u8]) -> [Option<IdFault>; 4] {
     [
         fault_of(alloc, Game::Solo, text),
         fault_of(alloc, Game::Pattern, text),
@@ -16,7 +16,7 @@ fn faults_of(alloc: Global, text: &str) -> [Option<IdFault>; 4] {
 }
 
 #[test]
-fn faults_before_the_colon(rt: HostRuntime) {
+fn faults_before_the_colon(rt: HostRuntime) -> Result<(), Fail> {
     for (fault, texts) in [
         (IdFault::NoColon, ""),
         (IdFault::NoColon, "2x2"),
@@ -32,10 +32,14 @@ fn faults_before_the_colon(rt: HostRuntime) {
         (IdFault::SizeRange, "121x2:p 99999999999999999999x2:p"),
     ] {
         for text in texts.split(' ') {
-            let found = faults_of(rt.alloc(), text);
+            let found = faults_of(rt.alloc(), text.as_bytes());
             assert_eq!(rt; found, [Some(fault); 4], "{text}");
         }
     }
+    let text = long_text(rt.alloc(), "", "_", 65_537, "")?;
+    let found = faults_of(rt.alloc(), &text);
+    assert_eq!(rt; found, [Some(IdFault::TooLong); 4]);
+    Ok(())
 }
 
 /// Sizes, and what is read of each.

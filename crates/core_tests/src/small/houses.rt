@@ -1,9 +1,11 @@
 //! Houses whose fillings are tried one by one.
 
+ghost use Rattle.std.specs.Prelude.{◌<◌};
+
 use super::{CELLS, Cells, Numbers, Sets, VALUES};
 
 /// Most houses of a small puzzle.
-const HOUSES: usize = 48;
+const HOUSES: usize = 64;
 
 /// What the numbers of a house's cells have to keep to.
 #[derive(Clone, Copy)]
@@ -14,20 +16,40 @@ pub(crate) enum Condition {
     Runs(u32),
     /// No number twice.
     Different,
+    /// The same, struck by single values and single places alone.
+    Single,
+    /// Each number of these cells has a place in the others too, and the other way round.
+    Crossing(Cells),
 }
 
 /// Some cells with their condition.
 #[derive(Clone, Copy)]
 pub(crate) struct House {
-    pub(crate) members: Cells,
-    pub(crate) condition: Condition,
+    members: Cells,
+    condition: Condition,
+    /// No cell from here on is its.
+    end: usize,
 }
 
 impl House {
+    pub(crate) fn new(members: Cells, condition: Condition) -> House {
+        let mut end = 0;
+        for cell in 0..CELLS {
+            if members[cell] {
+                end = cell + 1;
+            }
+        }
+        House {
+            members,
+            condition,
+            end,
+        }
+    }
+
     /// Whether the numbers of its cells keep to its condition.
     fn is_met(&self, grid: &Numbers) -> bool {
         let mut counts = [0usize; VALUES];
-        for cell in 0..CELLS {
+        for cell in 0..self.end.min(CELLS) {
             if self.members[cell] && grid[cell] < VALUES {
                 counts[grid[cell]] = counts[grid[cell]].saturating_add(1);
             }
@@ -35,14 +57,15 @@ impl House {
         match self.condition {
             Condition::Ones { least, most } => least <= counts[1] && counts[1] <= most,
             Condition::Runs(lengths) => self.runs(grid) == lengths,
-            Condition::Different => counts.iter().all(|count| *count < 2),
+            Condition::Crossing(_) => true,
+            _ => counts.iter().all(|count| *count < 2),
         }
     }
 
     /// The lengths of the runs of ones, each below 10, as digits.
     fn runs(&self, grid: &Numbers) -> u32 {
         let (mut lengths, mut within) = (0u32, false);
-        for cell in 0..CELLS {
+        for cell in 0..self.end.min(CELLS) {
             if self.members[cell] && grid[cell] == 1 {
                 let before = if within {
                     lengths
@@ -60,7 +83,7 @@ impl House {
 
     /// Tries each number of the cells from this one on, and marks what stands in a filling.
     fn try_from(&self, sets: &Sets, cell: usize, grid: &mut Numbers, shown: &mut Sets) {
-        if cell >= CELLS {
+        if cell >= CELLS || cell >= self.end {
             if self.is_met(grid) {
                 self.show(grid, shown);
             }
@@ -71,29 +94,81 @@ impl House {
             return;
         }
         for value in 0..VALUES {
-            if sets[cell][value] {
+            if sets[cell][value] && !self.repeats(grid, cell, value) {
                 grid[cell] = value;
                 self.try_from(sets, cell + 1, grid, shown);
             }
         }
     }
 
+    /// Whether the number may not stand in the cell because it stands in one before.
+    fn repeats(&self, grid: &Numbers, cell: usize, value: usize) -> bool {
+        matches!(self.condition, Condition::Different)
+            && (0..cell.min(CELLS)).any(|other| self.members[other] && grid[other] == value)
+    }
+
     /// Marks the numbers of its cells.
     fn show(&self, grid: &Numbers, shown: &mut Sets) {
-        for cell in 0..CELLS {
+        for cell in 0..self.end.min(CELLS) {
             if self.members[cell] && grid[cell] < VALUES {
                 shown[cell][grid[cell]] = true;
             }
         }
     }
 
-    /// Strikes from its cells what stands in none of its fillings.
+    /// Whether single values and single places leave the value in the cell. There are as many values as cells.
+    fn leaves_single(&self, sets: &Sets, cell: usize, value: usize) -> bool
+        requires cell_in { cell < 36 }
+        requires value_in { value < 6 }
+    {
+        let (mut places, mut cells) = ([0usize; VALUES], 0usize);
+        let mut lost = false;
+        for other in 0..CELLS {
+            let values = sets[other].iter().filter(|there| **there).count();
+            lost |= self.members[other] && values == 0;
+            lost |= self.members[other] && other != cell && values == 1 && sets[other][value];
+            cells = cells.saturating_add(usize::from(self.members[other]));
+            for v in 0..VALUES {
+                places[v] = places[v].saturating_add(usize::from(
+                    self.members[other] && sets[other][v],
+                ));
+            }
+        }
+        for v in 0..VALUES {
+            lost |= v < cells && places[v] == 0;
+            lost |= v != value && places[v] == 1 && sets[cell][v];
+        }
+        !lost
+    }
+
+    /// Whether one of the others of a crossing has a place for the value.
+    fn has_beyond(&self, sets: &Sets, block: &Cells, cell: usize, value: usize) -> bool
+        requires cell_in { cell < 36 }
+        requires value_in { value < 6 }
+    {
+        for other in 0..CELLS {
+            if self.members[other] && block[other] != block[cell] && sets[other][value] {
+                return true;
+            }
+        }
+        false
+    }
+
+    /// Strikes from its cells what stands in none of its fillings, or what single values, single places or the crossing strike.
     pub(crate) fn strike(&self, sets: &mut Sets) {
-        let mut shown = [[false; VALUES]; CELLS];
-        self.try_from(sets, 0, &mut [0; CELLS], &mut shown);
+        let (before, mut shown) = (*sets, [[false; VALUES]; CELLS]);
+        if !matches!(self.condition, Condition::Single | Condition::Crossing(_)) {
+            self.try_from(sets, 0, &mut [0; CELLS], &mut shown);
+        }
         for cell in 0..CELLS {
-            if self.members[cell] {
-                sets[cell] = shown[cell];
+            for value in 0..VALUES {
+                sets[cell][value] = before[cell][value]
+                    && match self.condition {
+                        _ if !self.members[cell] => true,
+                        Condition::Single => self.leaves_single(&before, cell, value),
+                        Condition::Crossing(block) => self.has_beyond(&before, &block, cell, value),
+                        _ => shown[cell][value],
+                    };
             }
         }
     }
@@ -109,10 +184,7 @@ pub(crate) struct Houses {
 impl Houses {
     /// No houses.
     pub(crate) fn new() -> Houses {
-        let none = House {
-            members: [false; CELLS],
-            condition: Condition::Different,
-        };
+        let none = House::new([false; CELLS], Condition::Different);
         Houses {
             list: [none; HOUSES],
             count: 0,
@@ -122,7 +194,7 @@ impl Houses {
     /// Adds a house, as long as there is room.
     pub(crate) fn push(&mut self, members: Cells, condition: Condition) {
         if self.count < HOUSES {
-            self.list[self.count] = House { members, condition };
+            self.list[self.count] = House::new(members, condition);
             self.count += 1;
         }
     }

@@ -33,6 +33,20 @@ impl Small {
         }
     }
 
+    /// A row whose ends are given, and in which no neighbours have one value.
+    pub(crate) fn row(cells: usize, values: usize, first: usize, last: usize) -> Small {
+        let mut row = Small::new(cells, cells, values);
+        row.start[0] = from_fn(|value| value == first);
+        for cell in 1..cells.min(CELLS) {
+            if cell + 1 == cells {
+                row.start[cell] = from_fn(|value| value == last);
+            }
+            let both = from_fn(|other| other == cell || other + 1 == cell);
+            row.houses.push(both, Condition::Different);
+        }
+        row
+    }
+
     /// A grid of two values.
     fn of_size(size: Size) -> Small {
         Small::new(usize::from(size.w()), size.cells(), 2)
@@ -129,9 +143,71 @@ impl Small {
         paired && self.houses.are_met(grid)
     }
 
-    /// Solo of 2 by 2 blocks: rows, columns and blocks.
-    pub(crate) fn solo(puzzle: &SoloPuzzle) -> Small {
+    /// How many values a cell can have at first.
+    fn choices(&self, cell: usize) -> usize {
+        self.start[cell.min(CELLS - 1)]
+            .iter()
+            .filter(|there| **there)
+            .count()
+    }
+
+    /// How many grids the start allows.
+    pub(crate) fn grids(&self) -> usize {
+        let mut grids = 1usize;
+        for cell in 0..self.cells.min(CELLS) {
+            grids = grids.saturating_mul(self.choices(cell));
+        }
+        grids
+    }
+
+    /// The grid with this number among those that the start allows.
+    pub(crate) fn grid_at(&self, number: usize) -> Numbers {
+        let (mut grid, mut rest) = ([0; CELLS], number);
+        for cell in 0..self.cells.min(CELLS) {
+            let choices = self.choices(cell).max(1);
+            let mut before = rest % choices;
+            for value in 0..VALUES {
+                if self.start[cell][value] && before == 0 {
+                    grid[cell] = value;
+                }
+                before = before.wrapping_sub(usize::from(self.start[cell][value]));
+            }
+            rest /= choices;
+        }
+        grid
+    }
+
+    /// The cells of a block of `r` columns and `c` rows, so many of them beside each other.
+    fn block(&self, c: usize, r: usize, number: usize) -> Cells {
+        let (c, r) = (c.max(1), r.max(1));
+        from_fn(|cell| {
+            let (x, y) = self.at(cell);
+            cell < self.cells && (y / c).saturating_mul(c).saturating_add(x / r) == number
+        })
+    }
+
+    /// The diagonal from the top left, or that from the top right.
+    fn diagonal(&self, falling: bool) -> Cells {
+        from_fn(|cell| {
+            let (x, y) = self.at(cell);
+            let on = x == y && falling
+                || x.saturating_add(y).saturating_add(1) == self.width && !falling;
+            cell < self.cells && on
+        })
+    }
+
+    /// Adds the crossing of a block and a line, if they meet.
+    fn push_crossing(&mut self, block: Cells, line: Cells) {
+        if (0..CELLS).any(|cell| block[cell] && line[cell]) {
+            let members = from_fn(|cell| block[cell] != line[cell]);
+            self.houses.push(members, Condition::Crossing(block));
+        }
+    }
+
+    /// Solo: rows, columns and blocks, both diagonals in Solo X, and crossings where they are asked for.
+    pub(crate) fn solo(puzzle: &SoloPuzzle, condition: Condition, crossed: bool) -> Small {
         let n = usize::from(puzzle.n());
+        let (c, r) = (usize::from(puzzle.c()), usize::from(puzzle.r()));
         let mut small = Small::new(n, n * n, n);
         for cell in 0..CELLS.min(n * n) {
             let given = usize::from(puzzle.given(cell));
@@ -139,11 +215,22 @@ impl Small {
                 small.start[cell][value] &= given == 0 || value + 1 == given;
             }
         }
-        for number in 0..4 {
-            let block = from_fn(|cell| number == cell / 8 * 2 + cell % 4 / 2);
-            for members in [small.line(number, true), small.line(number, false), block] {
-                small.houses.push(members, Condition::Different);
+        for number in 0..n {
+            let (row, column) = (small.line(number, true), small.line(number, false));
+            for members in [row, column, small.block(c, r, number)] {
+                small.houses.push(members, condition);
             }
+            let blocks = if crossed { n } else { 0 };
+            for block in 0..blocks {
+                let block = small.block(c, r, block);
+                small.push_crossing(block, row);
+                small.push_crossing(block, column);
+            }
+        }
+        if puzzle.x() {
+            let (falling, rising) = (small.diagonal(true), small.diagonal(false));
+            small.houses.push(falling, condition);
+            small.houses.push(rising, condition);
         }
         small
     }

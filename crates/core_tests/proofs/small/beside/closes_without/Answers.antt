@@ -2,7 +2,7 @@ use Rattle.std.proofs.Common.{ap, sym, ◌∙◌}
 use Rattle.grid_core.specs.Board.{has}
 use Rattle.grid_core.specs.Candidates.{Candidates}
 use Rattle.engine_core.proofs.HouseLemmas.{without-inside}
-use Rattle.core_tests.proofs.small.closes_without.Goals as goal
+use Rattle.core_tests.proofs.small.beside.closes_without.Goals as goal
 
 pub close_from-closing-requires-clause-inside : goal.close_from-closing-requires-clause-inside
 close_from-closing-requires-clause-inside g c = λ d v on.
