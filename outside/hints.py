@@ -1,29 +1,28 @@
 #!/usr/bin/env python3
 """Plays made puzzles by the page's hints alone, and compares what they need with the grade that the program tells.
 
-The rules of the hints (page/hints/) are a program of its own. For each game it takes the puzzles of seeds from 1 on, until 50
-have a rule set as their grade. Of each puzzle these have to be so:
+The rules of the hints (page/web/hints/) are a program of its own, which Debian's nodejs runs here. For each game it takes the
+puzzles of seeds from 1 on, until 50 have a rule set as their grade. Of each puzzle these have to be so:
 - each hint is right: what it says of a cell stands in the only solution;
-- hints come to the end without a guess if the grade is a rule set, and need one if it is `search n`;
+- each hint has words, and all but a guess tell first where to look;
+- if the grade is a rule set, the steps that it knows lead to the end; if it is `search n` they don't;
 - the weakest rule set that settles the puzzle by these rules is the grade.
-Prints a table; the exit status is 1 if anything differs.
+Prints a table; the exit status is 1 if anything differs, and 2 if something that it needs isn't there.
 """
 import argparse
 import collections
+import json
+import shutil
 import signal
 import statistics
 import subprocess
 import sys
-import time
 from pathlib import Path
-
-sys.path.insert(0, str(Path(__file__).resolve().parent.parent / "page"))
-from hints import RULES, hint  # noqa: E402
-from hints.puzzle import Puzzle  # noqa: E402
 
 SIZES = {"solo": ["3x3", "3x3x", "3x3", "3x4"], "pattern": ["10x10", "15x15"], "lightup": ["7x7", "10x10"],
          "tents": ["8x8", "10x10"]}
-RULE_SETS = {"solo": ["singles", "houses", "crossings"], "pattern": ["lines"], "lightup": ["local"], "tents": ["local"]}
+KINDS = ["step", "harder", "trial", "guess"]
+REASONER = Path(__file__).with_suffix(".mjs")
 WAIT = 30  # seconds of a run of the program
 WHOLE = 1200  # seconds of all
 
@@ -32,68 +31,63 @@ class Fault(Exception):
     """A puzzle that isn't as it should be."""
 
 
+class Reasoner:
+    """The page's reasoner, which answers one puzzle after another."""
+
+    def __init__(self):
+        self.child = subprocess.Popen([shutil.which("node"), REASONER], stdin=subprocess.PIPE, stdout=subprocess.PIPE, text=True)
+
+    def play(self, game, text, grid):
+        self.child.stdin.write(json.dumps({"game": game, "id": text, "grid": grid}) + "\n")
+        self.child.stdin.flush()
+        answer = self.child.stdout.readline()
+        if not answer:
+            raise Fault(f"{text}: no answer of the reasoner")
+        return json.loads(answer)
+
+
 def ask(program, *words):
     done = subprocess.run([program, *words], stdin=subprocess.DEVNULL, capture_output=True, text=True, timeout=WAIT, check=False)
     return done.stdout.splitlines()
 
 
-def play(game, text, solution):
-    """How many hints and how many guesses lead from the empty board to the end, and the milliseconds of each."""
-    puzzle = Puzzle(game, text)
-    right, signs = puzzle.split(solution), [sign or "." for sign in puzzle.fixed]
-    kinds, times = collections.Counter(), []
-    while True:
-        between = " " if puzzle.block else ""
-        marks = [between.join(signs[y * puzzle.w:(y + 1) * puzzle.w]) for y in range(puzzle.h)]
-        begun = time.perf_counter()
-        told = hint(game, text, marks, solution)
-        times.append((time.perf_counter() - begun) * 1000)
-        if told["kind"] == "done":
-            return kinds, times
-        if told["kind"] not in ("house", "guess") or not told["cells"]:
-            raise Fault(f"a hint {told}")
-        kinds[told["kind"]] += 1
-        for (x, y), sign in zip(told["cells"], told["signs"]):
-            place = y * puzzle.w + x
-            if signs[place] != "." or right[place] != sign.replace("x", "."):
-                raise Fault(f"{told['words']} at {x},{y}")
-            signs[place] = sign
+def compare(text, grid, grade, told):
+    """How many hints of each kind there were, if all are as they should be."""
+    right = "".join(grid) if " " not in grid[0] else " ".join(grid).split()
+    for hint in told["hints"]:
+        for cell, sign in zip(hint["cells"], hint["signs"]):
+            if right[cell] != sign.replace("x", "."):
+                raise Fault(f"{text}: {hint}")
+        if not hint["words"] or not (hint["look"] or hint["kind"] == "guess") or hint["kind"] not in KINDS:
+            raise Fault(f"{text}: a hint {hint}")
+    if not told["isDone"]:
+        raise Fault(f"{text}: the hints don't come to the end")
+    kinds = collections.Counter(hint["kind"] for hint in told["hints"])
+    if (kinds.total() == kinds["step"]) != (grade != "search"):
+        raise Fault(f"{text}: grade {grade}, and {dict(kinds)}")
+    if told["settledBy"] != grade:
+        raise Fault(f"{text}: grade {grade}, and by these rules {told['settledBy']}")
+    return kinds
 
 
-def settled_by(game, text):
-    """The weakest rule set that leaves one value in each cell."""
-    puzzle = Puzzle(game, text)
-    for rule_set in RULE_SETS[game]:
-        rules = RULES[game](puzzle)
-        cans = rules.cans([sign or "." for sign in puzzle.fixed])
-        rules.close(cans, rule_set)
-        if all(len(can) == 1 for can in cans):
-            return rule_set
-    return "search"
-
-
-def try_seed(program, game, seed):
-    """The grade of a seed's puzzle, its hints and its guesses, and the times; None if there is no puzzle."""
+def try_seed(program, reasoner, game, seed):
+    """The grade of a seed's puzzle, its hints by their kinds, and the times; None if there is no puzzle."""
     size = SIZES[game][seed % len(SIZES[game])]
-    text, *solution = ask(program, "generate", game, size, "--seed", str(seed), "--budget", "1000")
+    text, *grid = ask(program, "generate", game, size, "--seed", str(seed), "--budget", "1000")
     if text == "exhausted":
         return None
     grade = ask(program, "grade", game, "--", text)[0].split()[0]
-    kinds, times = play(game, text, solution)
-    if (kinds["guess"] == 0) != (grade != "search"):
-        raise Fault(f"{text}: grade {grade}, and {kinds['guess']} guesses")
-    if settled_by(game, text) != grade:
-        raise Fault(f"{text}: grade {grade}, and by these rules {settled_by(game, text)}")
-    return grade, kinds, times
+    told = reasoner.play(game, text, grid)
+    return grade, compare(text, grid, grade, told), told["times"]
 
 
-def try_game(program, game, wanted):
+def try_game(program, reasoner, game, wanted):
     """Plays until so many puzzles of a rule set are played. Gives the faults, and a row of the table."""
     grades, kinds, times, faults, seed = collections.Counter(), collections.Counter(), [], [], 0
     while sum(count for grade, count in grades.items() if grade != "search") < wanted:
         seed += 1
         try:
-            tried = try_seed(program, game, seed)
+            tried = try_seed(program, reasoner, game, seed)
         except Fault as fault:
             faults.append(f"FAULT {game} {fault}")
             grades["search"] += 1
@@ -106,7 +100,7 @@ def try_game(program, game, wanted):
             times += tried[2]
         if sys.stderr.isatty() or seed % 50 == 0:
             print(f"{game}: {seed} seeds, {dict(grades)}", end="\r" if sys.stderr.isatty() else "\n", file=sys.stderr, flush=True)
-    row = [game, ", ".join(f"{count} {grade}" for grade, count in sorted(grades.items())), kinds["house"], kinds["guess"]]
+    row = [game, ", ".join(f"{count} {grade}" for grade, count in sorted(grades.items())), *(kinds[kind] for kind in KINDS)]
     return faults, [*row, f"{statistics.median(times):.1f}", f"{max(times):.0f}"]
 
 
@@ -117,10 +111,14 @@ def main():
     words = parser.parse_args()
     signal.signal(signal.SIGALRM, lambda *_: sys.exit(f"stopped after {WHOLE} seconds"))
     signal.alarm(WHOLE)
-    print("| Game | Puzzles by grade | Hints with a reason | Guesses | Median, ms | Most, ms |\n|---|---|---|---|---|---|")
-    faults = []
-    for game in RULES:
-        found, row = try_game(words.program, game, words.count)
+    if not shutil.which("node"):
+        print("needed and not found: node (Debian's nodejs)", file=sys.stderr)
+        sys.exit(2)
+    heads = "Game | Puzzles by grade | Simple steps | Harder steps | Tried out | Guesses | Median, ms | Most, ms"
+    print(f"| {heads} |\n|---|---|---|---|---|---|---|---|")
+    faults, reasoner = [], Reasoner()
+    for game in SIZES:
+        found, row = try_game(words.program, reasoner, game, words.count)
         faults += found
         print("| " + " | ".join(map(str, row)) + " |", flush=True)
     print("\n".join([*faults, f"{len(faults)} faults"]))

@@ -1,10 +1,11 @@
 #!/usr/bin/env python3
-"""Tries the page of the folder page/: each call and each refusal, hostile requests, many at a time, and the page in a browser.
+"""Tries the page of the folder page/: each call and each refusal, hostile requests, many at a time, and both pages in browsers.
 
 It starts page/serve.py on a free port, compares each reply with what must come, and prints a table of times. The expected
-replies are the worked examples of README.md and of docs/, or follow from the rules. Each wait has an end. The last part needs
-Debian's chromium, chromium-driver and python3-selenium; --no-browser leaves it out.
-It exits with 1 where something differs, and with 2 where something that it needs isn't there.
+replies are the worked examples of README.md and of docs/, or follow from the rules. With --module it also has page/static.py
+write the page without a server, and drives that one too, with and without a network. Each wait has an end. The browser's parts
+need Debian's chromium, chromium-driver, firefox-esr and python3-selenium; --no-browser leaves them out. Its modules lie in the
+folder outside/page/. It exits with 1 where something differs, and with 2 where something that it needs isn't there.
 """
 import argparse
 import concurrent.futures
@@ -19,19 +20,18 @@ import sys
 import time
 from pathlib import Path
 
-import page_browser
-import page_driver
-import page_faults
-import page_kept
-import page_levels
-import page_looks
-import page_player
-from page_requests import CHECK, GENERATE, GRADE, HINT, HOST, RAW, REFUSED, REFUSED_MORE, SOLO, SOLVE
-from page_server import PAGE, WAIT, Server, Tally
+sys.dont_write_bytecode = True
+sys.path.insert(0, str(Path(__file__).resolve().with_name("page")))
+import alone  # noqa: E402
+import browser  # noqa: E402
+import driver  # noqa: E402
+import faults  # noqa: E402
+import firefox  # noqa: E402
+from asked import CHECK, GENERATE, GRADE, HOST, RAW, REFUSED, REFUSED_MORE, SOLO, SOLVE  # noqa: E402
+from server import WAIT, WEB, Server, Tally  # noqa: E402
 
-WHOLE = 1500  # seconds of the whole run
+WHOLE = 2400  # seconds of the whole run
 CLIENTS, CALLS = 8, 1000
-RETRIES = 5
 WORKERS = min(4, os.cpu_count())  # of each game
 
 
@@ -53,16 +53,16 @@ def try_calls(server, tally):
         asked = {"game": game, "size": size, "seed": seed, **({"black": black} if black else {})}
         made = {"verdict": "made", "id": text, "grids": [grid], "seed": seed}
         same("generate", asked, 200, made if text else {"verdict": "exhausted", "grids": []})
-    for game, text, marks, wanted in HINT:
-        status, _, told = server.ask("hint", {"game": game, "id": text, "marks": marks})
-        got = (told["kind"], told["cells"], told["signs"], told["house"]) if told.get("verdict") == "one" else told.get("verdict")
-        tally.same(f"hint {game} {text} {marks}", (status, got), (200, wanted))
-        tally.true(f"hint {game} {text} {marks}: words", isinstance(wanted, str) or (told["words"] and all(told["words"])))
     for game, text, why in REFUSED:
-        for call, more in [("solve", {}), ("check", {"grid": ""}), ("grade", {}), ("hint", {"marks": ""})]:
-            same(call, {"game": game, "id": text, **more}, 400, {"refused": why})
+        for call, more in [("solve", {}), ("check", {"grid": ""}), ("grade", {})]:
+            same(call, {"game": game, "id": text, **more}, refused_by(why), {"refused": why})
     for call, asked, why in REFUSED_MORE:
-        same(call, asked, 400, {"refused": why})
+        same(call, asked, refused_by(why), {"refused": why})
+
+
+def refused_by(why):
+    """The status: what the program refuses is an answer, and what the server itself refuses isn't one."""
+    return 400 if why.startswith("field") else 200
 
 
 def guarded(headers):
@@ -77,12 +77,17 @@ def try_raw(server, tally):
     for sent, closing, status, why in RAW:
         got = server.send(sent, closing)
         head, _, body = got.partition(b"\r\n\r\n")
-        tally.same(f"{sent[:60]}", (head.split(b" ")[1:2], body), ([str(status).encode()], json.dumps({"refused": why}).encode()))
+        wanted = [str(status).encode()], json.dumps({"refused": why}).encode()
+        tally.same(f"{sent[:60]}", (head.split(b" ")[1:2], body), wanted)
         tally.same(f"{sent[:60]}: none of its own text", b"canary" in got.lower(), False)
-    for name in ["", *(path.name for path in PAGE.iterdir() if path.suffix in (".html", ".css", ".js", ".svg"))]:
-        whole = (PAGE / (name or "index.html")).read_bytes()
+    for name in ["", *(str(path.relative_to(WEB)) for path in WEB.rglob("*.*"))]:
+        whole = (WEB / (name or "index.html")).read_bytes()
         head, _, body = server.send(b"GET /%s HTTP/1.1\r\n%s\r\n" % (name.encode(), HOST), False).partition(b"\r\n\r\n")
         tally.same(f"GET /{name}", (b" 200 " in head, body), (True, whole))
+        tag = head.partition(b"ETag: ")[2].partition(b"\r\n")[0]
+        again = b"GET /%s HTTP/1.1\r\n%sIf-None-Match: %s\r\n\r\n" % (name.encode(), HOST, tag)
+        head, _, body = server.send(again, False).partition(b"\r\n\r\n")
+        tally.same(f"GET /{name} again", (b" 304 " in head, body), (True, b""))
         head, _, body = server.send(b"HEAD /%s HTTP/1.1\r\n%s\r\n" % (name.encode(), HOST), False).partition(b"\r\n\r\n")
         tally.same(f"HEAD /{name}", (b" 200 " in head, b"Content-Length: %d" % len(whole) in head, body), (True, True, b""))
     for host in ("localhost", f"LOCALHOST:{server.port}", f"127.0.0.1:{server.port}", "puzzles.example"):
@@ -181,30 +186,43 @@ def try_many(server, tally, program):
         print(f"| {name} | " + " | ".join(f"{ms:.0f}" if ms >= 10 else f"{ms:.2g}" for ms in shown) + " |")
 
 
+def parts_of(words, server, tally):
+    """What is tried, in order."""
+    program = os.path.abspath(words.program)
+    parts = [lambda: try_calls(server, tally), lambda: try_raw(server, tally), lambda: try_many(server, tally, program),
+             lambda: try_hard(server, tally), lambda: faults.try_faults(program, tally)]
+    if words.no_browser:
+        return parts
+    parts.append(lambda: browser.try_page(server, tally, words.pictures))
+    if words.module:
+        parts.append(lambda: alone.try_page(server, tally, words.module))
+    return [*parts, lambda: firefox.try_page(server, tally, words.module)]
+
+
+def tried(words, server, tally):
+    """The parts in turn, with a line for each."""
+    parts = parts_of(words, server, tally)
+    for number, part in enumerate(parts, 1):
+        part()
+        print(f"part {number} of {len(parts)}: {tally.right} passed, {tally.wrong} failed", file=sys.stderr, flush=True)
+
+
 def main():
     parser = argparse.ArgumentParser(description=__doc__, formatter_class=argparse.RawDescriptionHelpFormatter)
     parser.add_argument("program", metavar="PROGRAM", help="as `rt run` leaves it: crates/puzzles/out/puzzles")
-    parser.add_argument("--no-browser", action="store_true", help="leave the browser out")
-    parser.add_argument("--count", type=int, default=100, help="puzzles of each game and level (default 100)")
+    parser.add_argument("--module", metavar="FILE", help="puzzles.wasm, for the page without a server")
+    parser.add_argument("--no-browser", action="store_true", help="leave the browsers out")
     parser.add_argument("--pictures", metavar="FOLDER", help="leave a picture of each game there, of a phone and of a desk")
     words = parser.parse_args()
-    missing = [] if words.no_browser else page_driver.missing()
+    missing = [] if words.no_browser else driver.missing()
     if missing:
         print(f"needed and not found: {', '.join(missing)} (--no-browser does without)", file=sys.stderr)
         sys.exit(2)
     signal.signal(signal.SIGALRM, lambda *_: sys.exit(f"stopped after {WHOLE} seconds"))
     signal.alarm(WHOLE)
-    tally, server, program = Tally(), Server(words.program, "--host", "puzzles.example"), os.path.abspath(words.program)
-    parts = [lambda: try_calls(server, tally), lambda: try_raw(server, tally), lambda: try_many(server, tally, program),
-             lambda: try_hard(server, tally), lambda: page_levels.try_levels(server, tally, program, words.count),
-             lambda: page_faults.try_faults(program, tally)]
-    if not words.no_browser:
-        more = [page_kept.try_kept, page_player.try_player, page_looks.try_looks]
-        parts.append(lambda: page_browser.try_page(server, tally, words.pictures, more))
+    tally, server = Tally(), Server(words.program, "--host", "puzzles.example")
     try:
-        for number, part in enumerate(parts, 1):
-            part()
-            print(f"part {number} of {len(parts)}: {tally.right} passed, {tally.wrong} failed", file=sys.stderr, flush=True)
+        tried(words, server, tally)
     finally:
         children = server.children()
         ended = server.stop()

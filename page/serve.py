@@ -1,11 +1,13 @@
 #!/usr/bin/env python3
-"""Serves a page over the program `puzzles`, on this machine alone: the files of this folder, and five calls in JSON.
+"""Serves a page over the program `puzzles`, on this machine alone: the files of the folder web/, and four calls in JSON.
 
-A call is POST /solve, /check, /grade, /generate or /hint. Of a visitor's text only what a call's fields allow reaches the
-program. docs/USE.md tells the calls, and outside/page.py tries them. Ctrl-C ends it.
+A call is POST /solve, /check, /grade or /generate. Of a visitor's text only what a call's fields allow reaches the program.
+docs/USE.md tells the calls, and outside/page.py tries them. Ctrl-C ends it.
 """
 import argparse
+import collections
 import contextlib
+import hashlib
 import http.server
 import json
 import os
@@ -23,16 +25,21 @@ from program import Failed, Process, is_puzzles
 
 CALLS = 8  # at a time
 PATIENCE = 0.5  # seconds that a call waits for its turn
+SHARE = 3  # calls at a time of one visitor, whom a server in front names by X-Forwarded-For
 LIFE = 10.0  # seconds in which a request has to be there
-WAITING = min(256, resource.getrlimit(resource.RLIMIT_NOFILE)[0] // 4)  # connections without a request; of more the oldest is cut
+WAITING = min(256, resource.getrlimit(resource.RLIMIT_NOFILE)[0] // 4)  # connections without a request; of more one is cut
 BODY = 70_000  # bytes
 
-KINDS = {".html": "text/html; charset=utf-8", ".css": "text/css", ".js": "text/javascript", ".svg": "image/svg+xml"}
-FILES = {path.name: path.read_bytes() for path in Path(__file__).parent.iterdir() if path.suffix in KINDS}
+WEB = Path(__file__).resolve().parent / "web"
+KINDS = {".html": "text/html; charset=utf-8", ".css": "text/css", ".js": "text/javascript", ".svg": "image/svg+xml",
+         ".png": "image/png", ".webmanifest": "application/manifest+json"}
+FILES = {str(path.relative_to(WEB)): path.read_bytes() for path in WEB.rglob("*") if path.suffix in KINDS}
+TAGS = {name: f'"{hashlib.sha256(body).hexdigest()[:16]}"' for name, body in FILES.items()}
 HEADERS = {
     "Content-Security-Policy": "default-src 'none'; script-src 'self'; style-src 'self'; img-src 'self'; connect-src 'self'; "
-                               "base-uri 'none'; form-action 'none'; frame-ancestors 'none'",
-    "X-Content-Type-Options": "nosniff", "Referrer-Policy": "no-referrer", "Cache-Control": "no-store",
+                               "worker-src 'self'; manifest-src 'self'; base-uri 'none'; form-action 'none'; "
+                               "frame-ancestors 'none'",
+    "X-Content-Type-Options": "nosniff", "Referrer-Policy": "no-referrer",
 }
 
 
@@ -47,7 +54,10 @@ class Page(http.server.BaseHTTPRequestHandler):
             return self.send_error(421)
         if name not in FILES:
             return self.send_error(404)
-        return self.reply(200, FILES[name], KINDS[Path(name).suffix])
+        more = {"ETag": TAGS[name], "Cache-Control": "no-cache"}  # a browser asks whether its copy is still good
+        if self.headers.get("If-None-Match") == TAGS[name]:
+            return self.reply(304, b"", KINDS[Path(name).suffix], more)
+        return self.reply(200, FILES[name], KINDS[Path(name).suffix], more)
 
     do_HEAD = do_GET
 
@@ -56,12 +66,9 @@ class Page(http.server.BaseHTTPRequestHandler):
         try:
             asked = fields(call, self.body(call))
             self.server.waiting.pop(self.request, None)
-            if not self.server.turns.acquire(timeout=PATIENCE):
-                raise Failed("busy")
-            try:
+            visitor = self.headers.get("X-Forwarded-For", "").rpartition(",")[2].strip()
+            with self.server.turns.turn(visitor):
                 status, parts = 200, self.server.calls.answer(call, asked)
-            finally:
-                self.server.turns.release()
         except Refused as refused:
             status, parts = refused.args[0], {"refused": refused.args[1]}
         except Failed as failed:
@@ -74,7 +81,8 @@ class Page(http.server.BaseHTTPRequestHandler):
         return name.lower() in self.server.names
 
     def body(self, call):
-        size = self.headers.get("Content-Length", "")
+        sizes = set(self.headers.get_all("Content-Length", [""]))
+        size = sizes.pop() if len(sizes) == 1 else ""
         if not self.is_ours():
             raise Refused(421, "host")
         if call not in NEEDED:
@@ -91,8 +99,8 @@ class Page(http.server.BaseHTTPRequestHandler):
             raise Refused(413, "too long")
         return body
 
-    def reply(self, status, body, kind="application/json"):
-        more = {"Retry-After": "2"} if status == 503 else {}
+    def reply(self, status, body, kind="application/json", more=None):
+        more = more or {"Cache-Control": "no-store", **({"Retry-After": "2"} if status == 503 else {})}
         self.request_version = "HTTP/1.0"  # a request without a version gets a head all the same
         self.send_response(status)
         for name, text in {**HEADERS, **more, "Content-Type": kind, "Content-Length": str(len(body))}.items():
@@ -108,13 +116,38 @@ class Page(http.server.BaseHTTPRequestHandler):
         pass
 
 
+class Turns:
+    """So many calls at a time, and of a visitor that is named so many."""
+
+    def __init__(self):
+        self.changed, self.running = threading.Condition(), collections.Counter()
+
+    def is_free(self, visitor):
+        return self.running.total() < CALLS and (not visitor or self.running[visitor] < SHARE)
+
+    @contextlib.contextmanager
+    def turn(self, visitor):
+        with self.changed:
+            if not self.changed.wait_for(lambda: self.is_free(visitor), PATIENCE):
+                raise Failed("busy")
+            self.running[visitor] += 1
+        try:
+            yield
+        finally:
+            with self.changed:
+                self.running[visitor] -= 1
+                if not self.running[visitor]:
+                    del self.running[visitor]
+                self.changed.notify_all()
+
+
 class Server(http.server.ThreadingHTTPServer):
     request_queue_size = 256
 
     def __init__(self, port, program, names):
         super().__init__(("127.0.0.1", port), Page)
         self.calls, self.names = Calls(program), {"127.0.0.1", "localhost", *(name.lower() for name in names)}
-        self.turns, self.waiting = threading.BoundedSemaphore(CALLS), {}  # by connection, the oldest first: when it began
+        self.turns, self.waiting = Turns(), {}  # by connection, the oldest first: when it began
 
     def get_request(self):
         try:

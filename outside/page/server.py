@@ -1,0 +1,81 @@
+"""A server of the page under test, and the count of what was compared. For `outside/page.py`."""
+import contextlib
+import http.client
+import json
+import socket
+import subprocess
+import sys
+from pathlib import Path
+
+PAGE = Path(__file__).resolve().parent.parent.parent / "page"
+WEB = PAGE / "web"
+WAIT = 30  # seconds of any wait for the server
+
+
+class Tally:
+    """Counts what was compared, and says what differs."""
+
+    def __init__(self):
+        self.right, self.wrong = 0, 0
+
+    def same(self, what, got, wanted):
+        if got == wanted:
+            self.right += 1
+        else:
+            self.wrong += 1
+            print(f"FAULT {what[:200]}: {str(got)[:300]}\n  and not {str(wanted)[:300]}", flush=True)
+
+    def true(self, what, holds):
+        self.same(what, bool(holds), True)
+
+
+class Server:
+    """page/serve.py as a process of its own, on a free port."""
+
+    def __init__(self, program, *more, before=(), script=PAGE / "serve.py"):
+        words = [*before, sys.executable, script, "--port", "0", *more, program]
+        self.child = subprocess.Popen(words, stdin=subprocess.DEVNULL, stdout=subprocess.PIPE, text=True)
+        self.url = self.child.stdout.readline().strip()
+        if not self.url:
+            sys.exit(2)  # it has said why
+        self.port = int(self.url.rstrip("/").rpartition(":")[2])
+
+    def stop(self):
+        self.child.terminate()
+        try:
+            return self.child.wait(WAIT)
+        except subprocess.TimeoutExpired:
+            self.child.kill()
+            return self.child.wait()
+
+    def children(self):
+        """The process numbers of its children."""
+        found = []
+        for status in Path("/proc").glob("[0-9]*/stat"):
+            with contextlib.suppress(OSError):
+                number, _, rest = status.read_text().partition(" (")
+                if int(rest.rpartition(") ")[2].split()[1]) == self.child.pid:
+                    found.append(int(number))
+        return found
+
+    def ask(self, call, told, host=None, visitor=None):
+        """Status, headers and parts of a reply."""
+        link = http.client.HTTPConnection("127.0.0.1", self.port, timeout=WAIT)
+        with contextlib.closing(link):
+            headers = {"Content-Type": "application/json", **({"Host": host} if host else {}),
+                       **({"X-Forwarded-For": visitor} if visitor else {})}
+            link.request("POST", f"/{call}", json.dumps(told), headers)
+            reply = link.getresponse()
+            return reply.status, reply.headers, json.loads(reply.read())
+
+    def send(self, sent, closing):
+        """All that comes back for these bytes."""
+        with socket.create_connection(("127.0.0.1", self.port), WAIT) as link:
+            link.sendall(sent)
+            if closing:
+                link.shutdown(socket.SHUT_WR)
+            got = b""
+            with contextlib.suppress(ConnectionResetError):
+                while piece := link.recv(1 << 16):
+                    got += piece
+            return got
