@@ -12,10 +12,8 @@ The status is 0; 2 if words, an ID or a grid are refused; 6 for a fault of readi
 import argparse
 import sys
 
-from lib.reader import GAMES, Refused, lines, read
-from lib.svg import svg
 from lib.work import REFUSED, Fault, begin
-from lib.writer import grid, written
+from puzzles.ids import GAMES, Refused, lines, read, read_grid, svg, written
 
 
 def answer_lines(game):
@@ -46,7 +44,7 @@ def main():
         return answer_lines(asked.game)
     try:
         puzzle = read(asked.game, asked.id)
-        cells = grid(puzzle, sys.stdin.read(1_000_000).splitlines()) if asked.grid else None
+        cells = read_grid(puzzle, sys.stdin.read(1_000_000).splitlines()) if asked.grid else None
     except (Refused, UnicodeDecodeError) as fault:
         raise Fault(f"refused: {fault}" if isinstance(fault, Refused) else "the grid isn't text", REFUSED) from None
     except ValueError as fault:

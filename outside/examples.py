@@ -22,12 +22,18 @@ sys.dont_write_bytecode = True
 import examples_book  # noqa: E402
 import examples_collect  # noqa: E402
 import examples_drawing  # noqa: E402
+import examples_formats  # noqa: E402
 import examples_ids  # noqa: E402
+import examples_kin  # noqa: E402
+import examples_print  # noqa: E402
+import examples_python  # noqa: E402
 import examples_words  # noqa: E402
 from examples_bench import Bench, Wrong  # noqa: E402
 
-TOOLS = ("chromium", "pdftotext", "pdftoppm", "pdfinfo", "sqlite3", "mandoc", "man", "zsh", "fish", "ps", "/usr/bin/python3")
-PARTS = {"ids": examples_ids, "drawing": examples_drawing, "book": examples_book, "collect": examples_collect,
+TOOLS = ("chromium", "pdftotext", "pdftoppm", "pdfinfo", "pdftohtml", "sqlite3", "mandoc", "man", "zsh", "fish", "ps",
+         "/usr/bin/python3")
+PARTS = {"ids": examples_ids, "python": examples_python, "formats": examples_formats, "drawing": examples_drawing,
+         "book": examples_book, "print": examples_print, "collect": examples_collect, "kin": examples_kin,
          "words": examples_words}
 
 

@@ -1,6 +1,7 @@
 """What the cases of outside/examples.py share: a folder, the program, and calls of the examples with a bound on each."""
 import os
 import pathlib
+import re
 import shutil
 import signal
 import subprocess
@@ -10,6 +11,7 @@ TOP = pathlib.Path(__file__).resolve().parent.parent
 EXAMPLES = TOP / "examples"
 SECONDS = 600  # for a call
 LETTERS = "0123456789abcdefghijklmnopqrstuvwxyzB_./,:x#-"
+PROGRESS = re.compile(r"\w+ \[#*\.*\] ")
 DEBIAN = "/usr/bin/python3"  # which has Debian's packages
 
 
@@ -20,6 +22,11 @@ class Wrong(Exception):
 def expect(stands, words):
     if not stands:
         raise Wrong(words)
+
+
+def without_progress(text):
+    """What is told but for lines of progress, which come on a busy machine alone."""
+    return "".join(line for line in text.splitlines(True) if not PROGRESS.match(line))
 
 
 def is_answer(line):
@@ -40,11 +47,13 @@ class Bench:
 
     def run(self, words, given="", stdout=subprocess.PIPE, seconds=SECONDS, **more):
         try:
-            return subprocess.run(words, input=given, stdout=stdout, stderr=subprocess.PIPE, encoding="utf-8",
+            done = subprocess.run(words, input=given, stdout=stdout, stderr=subprocess.PIPE, encoding="utf-8",
                                   errors="surrogateescape", cwd=self.folder, env={**self.environment, **more}, timeout=seconds,
                                   check=False)
         except subprocess.TimeoutExpired:
             raise Wrong(f"no end within {seconds} seconds: {' '.join(map(str, words))[:200]}") from None
+        done.stderr = without_progress(done.stderr)
+        return done
 
     def good(self, words, given="", **more):
         """What a call writes that ends with status 0."""

@@ -3,10 +3,9 @@ import csv
 import html
 import math
 import re
-import runpy
 import time
 
-from examples_bench import EXAMPLES, SECONDS, children, expect, wait_until
+from examples_bench import EXAMPLES, SECONDS, children, expect, wait_until, without_progress
 
 BOOK = EXAMPLES / "book" / "book.py"
 CHAPTERS = ["solo:3x3:easy:3", "solo:2x3x:any:2", "pattern:10x10:easy:3", "lightup:7x7:easy:2", "tents:8x8:medium:2",
@@ -51,7 +50,7 @@ def whole(bench):
     expect(said == f"{path}: {len(rows)} puzzles, {len(text)} pages\n" and known["Pages"] == str(len(text)), f"{said}{known}")
     expect(known["Title"] == "Sunday <&> ünd" and "A4" in known["Page size"], str(known))
     expect("Sunday <&> ünd" in text[0] and "21 puzzles" in text[0] and "Contents" in text[1], text[0] + text[1])
-    examples = runpy.run_path(str(BOOK.parent / "rules.py"))["EXAMPLES"]
+    examples = dict(re.findall(r'"(\w+)": "(\dx[^"]+)"', (BOOK.parent / "pages.py").read_text()))
     for game, words in RULES.items():
         answer = bench.good([bench.program, "solve", "--", game, examples[game]])
         expect(answer.startswith("one\n"), f"the example of {game} hasn't one solution")
@@ -92,8 +91,8 @@ def solutions(bench):
         path, _, rows = make(bench, f"solo{size}.pdf", "--symmetric", [f"solo:{size}:any:1"])
         last = int(information(bench, path)["Pages"])
         found = [word for word in words_of(bench, path, last) if word[0].isdigit()]
-        label, foot = found.pop(0), found.pop()
-        expect(label[0] == "1" and foot[0] == str(last), f"{label} {foot}")
+        head, label, foot = found.pop(0), found.pop(0), found.pop()
+        expect((head[0], label[0], foot[0]) == ("1", "1", str(last)), f"{head} {label} {foot}")
         middles = [word[2] + word[4] for word in found]
         pitch = (max(middles) - min(middles)) / (math.isqrt(len(found)) - 1)
         found.sort(key=lambda word: (round((word[2] + word[4] - min(middles)) / pitch), word[1]))
@@ -146,7 +145,7 @@ def same(bench):
     wait_until(lambda: part.exists() and part.read_bytes().count(b"\n") > 20, SECONDS, "nothing was made")
     run.send_signal(2)
     _, errors = run.communicate(timeout=SECONDS)
-    expect(run.returncode == 130 and errors == "book.py: stopped\n", f"Ctrl-C: status {run.returncode}: {errors}")
+    expect(run.returncode == 130 and without_progress(errors) == "book.py: stopped\n", f"status {run.returncode}: {errors}")
     expect(not children(run.pid), "something runs on after Ctrl-C")
     expect(second.read_bytes() == b"an older book" and part.exists(), "Ctrl-C left another book, or lost what was made")
     with open(part, "ab") as torn:
@@ -176,7 +175,9 @@ def faults(bench):
     book, one = bench.folder / "fault.pdf", "solo:2x2:any:1"
     for word in ("solo", "solo:3x3:easy:0", "solo:3x3:easy:x", "chess:3x3:easy:1", "solo:3:easy:1:2", "tents:3x3:any:1",
                  "solo:9x9:any:1", "solo:3x3:\udcff:1", "solo:3x3:any:" + "9" * 5000):
-        bench.told([BOOK, book, word], 2, "GAME:SIZE:LEVEL:COUNT" if "tents" not in word else "4x4 at least")
+        others = {"tents:3x3:any:1": "4x4 at least", "solo:9x9:any:1": "the size 9x9 is refused"}
+        bench.told([BOOK, book, word], 2, others.get(word, "isn't GAME:SIZE:LEVEL:COUNT"))
+    bench.told([BOOK, book, "tents:8x8:houses:1"], 2, "a level of Solo alone")
     bench.told([BOOK, "--paper", "A3", book, one], 2, "invalid choice")
     for words in (["--seed", "-1"], ["--seconds", "0"], ["--seconds", "nan"], ["--seconds", "inf"]):
         bench.told([BOOK, *words, book, one], 2, "a seed is")
@@ -196,6 +197,10 @@ def faults(bench):
     bench.told([BOOK, book, "lightup:2x2:hard:1"], 7, "1,000 seeds make 0 puzzles of lightup 2x2, hard")
     bench.told([BOOK, book, "lightup:30x30:any:1"], 7, "64 seeds make 0 puzzles of lightup 30x30, any")
     expect(book.read_bytes() == b"an older book", "the older book is lost")
+    (folder / "chromium").write_text("#!/bin/sh\nkill -9 $$\n")
+    bench.told([BOOK, "--program", bench.program, book, one], 7, "chromium ended by signal 9", PATH=f"{folder}:/usr/bin:/bin")
+    expect(book.read_bytes() == b"an older book", "a killed chromium lost the older book")
+    expect(book.with_name("fault.pdf.part").exists(), "a killed chromium lost what was made")
     return full_disk(bench)
 
 
@@ -214,4 +219,38 @@ def full_disk(bench):
     return ""
 
 
-CASES = [whole, solutions, symmetric, same, papers, faults]
+def temporary(bench):
+    """no room in the folder for temporary files, for the page or for its PDF: one sentence, and nothing is lost"""
+    book, chapter = bench.folder / "book.pdf", "solo:2x2:any:1"
+    book.write_bytes(b"an older book")
+    for size, sentence in (("4k", "No space left on device: "), ("2m", "chromium wrote no whole PDF")):
+        disk = bench.small_disk("temporary", f"size={size}")
+        if not disk:
+            return "NOT TRIED, since this user may not mount"
+        try:
+            bench.told([BOOK, book, chapter], 6, sentence, TMPDIR=str(disk))
+            expect(book.read_bytes() == b"an older book", "another book in the older one's place")
+            expect(book.with_name("book.pdf.part").stat().st_size > 0, "what was made is lost")
+            expect(not [*disk.iterdir()], "something is left in the folder")
+        finally:
+            bench.unmount(disk)
+    _, _, rows = make(bench, "book.pdf", [chapter])
+    expect(len(rows) == 1 and not book.with_name("book.pdf.part").exists(), "it didn't go on")
+    return ""
+
+
+def after(bench):
+    """a second volume behind the table of the first, or of two, has none of their puzzles"""
+    chapters, ids = ["solo:3x3:easy:8", "tents:8x8:easy:4", "lightup:7x7:any:4"], []
+    words = []
+    for name in ("first", "second", "third"):
+        path, _, rows = make(bench, f"{name}.pdf", *words, chapters)
+        ids += [row["id"] for row in rows]
+        words += ["--after", path.with_suffix(".csv")]
+    expect(len(set(ids)) == len(ids) == 48, f"{len(ids) - len(set(ids))} puzzles come again")
+    (bench.folder / "other.csv").write_text("a,b\n1,2\n")
+    bench.told([BOOK, "--after", bench.folder / "other.csv", bench.folder / "x.pdf", *chapters], 2, "no table of a book")
+    bench.told([BOOK, "--after", bench.folder / "none.csv", bench.folder / "x.pdf", *chapters], 6, "No such file")
+
+
+CASES = [whole, solutions, symmetric, same, after, papers, faults, temporary]

@@ -9,7 +9,7 @@ import sqlite3
 import time
 
 import dask_job
-from examples_bench import DEBIAN, EXAMPLES, SECONDS, ended, expect, wait_until
+from examples_bench import DEBIAN, EXAMPLES, SECONDS, ended, expect, wait_until, without_progress
 
 COLLECT = EXAMPLES / "collect" / "collect.py"
 JOB = EXAMPLES / "dask" / "job.py"
@@ -122,7 +122,7 @@ def stopped(bench):
     wait_until(lambda: table.exists() and any(row[3] for row in rows_or_none(table)), SECONDS, "no puzzle was graded")
     run.send_signal(2)
     _, errors = run.communicate(timeout=SECONDS)
-    expect(run.returncode == 130 and errors == "collect.py: stopped\n", f"status {run.returncode}: {errors}")
+    expect(run.returncode == 130 and without_progress(errors) == "collect.py: stopped\n", f"status {run.returncode}: {errors}")
     graded = sum(bool(row[3]) for row in rows(table))
     expect(0 < graded < 3000, f"{graded} graded at its end")
     add(bench, table, "solo", path)
@@ -204,8 +204,9 @@ def queries(bench):
     texts = solos(bench, 300)
     path.write_text("".join(f"{text}\n" for text in [*texts, *texts[:7]]))
     add(bench, table, "solo", path)
+    bench.good([COLLECT, "forms", table, "solo"])
     lines = re.findall(r"^\$ (sqlite3 .*SELECT.*(?:\n> .*)*)", (EXAMPLES / "collect" / "README.md").read_text(), re.M)
-    expect(len(lines) == 4, f"{len(lines)} queries")
+    expect(len(lines) == 5, f"{len(lines)} queries")
     outputs = [bench.good(["bash", "-c", line.replace("\n> ", "\n")]) for line in lines]
     expect(all(outputs) and len(outputs[2].splitlines()) == 8, f"{outputs}")
     hardest = [row for row in csv.DictReader(io.StringIO(outputs[0]))]

@@ -1,5 +1,7 @@
 """Cases of outside/examples.py: a drawing as a Pattern."""
 import itertools
+import random
+import re
 import struct
 import zlib
 
@@ -83,8 +85,8 @@ def faults(bench):
     three = b"P2\n3 1\n255\n0 128 255\n"
     broken = [heart[:40], heart[:-30], b"", b"GIF89a" + bytes(99), b"P4\n99999999 99999999\n", b"P1\n2 2\n1 0 x 1\n",
               b"P4\n-1 5\n"]
-    cases = [(content, "no PBM or PNG") for content in broken]
-    cases += [(b"P4\n4000 4000\n", "at most 120"), (plain(["#" * 121]), "at most 120"), (three, "more than two colours")]
+    cases = [(content, "no PBM, PGM, PPM or PNG") for content in broken]
+    cases += [(b"P4\n4000 4000\n", "at most 120"), (plain(["#" * 121]), "at most 120"), (three, "more than two colours: --dark")]
     for content, sentence in cases:
         status, _, errors = looked_at(bench, content)
         expect(status == 2 and sentence in errors and errors.count("\n") == 1, f"{content[:20]}: status {status}: {errors}")
@@ -96,4 +98,38 @@ def faults(bench):
         bench.told([DEBIAN, DRAWING, "drawing"], 6, "No space left", stdout=full)
 
 
-CASES = [one, several, faults]
+def mended(bench):
+    """a drawing with several solutions is mended: the cells that are told are changed, and no others, and then there is one"""
+    draws = random.Random(8)
+    drawings = [["#.#.#.#.", ".#.#.#.#"] * 4, ["".join(draws.choice("#...") for _ in range(9)) for _ in range(9)], CROSSED]
+    for rows in drawings:
+        status, lines, errors = looked_at(bench, plain(rows), "--mend", bench.folder / "mended.pbm")
+        cells = [[*row] for row in rows]
+        for column, row, colour in re.findall(r"column (\d+), row (\d+): (black|white)", errors):
+            expect(cells[int(row) - 1][int(column) - 1] == ("." if colour == "black" else "#"), f"{rows}: {errors}")
+            cells[int(row) - 1][int(column) - 1] = "#" if colour == "black" else "."
+        changed = ["".join(row) for row in cells]
+        expect(status == 0 and lines[0] == id_of(changed) and changed != rows, f"{rows}: status {status}: {lines} {errors}")
+        answer = bench.good([bench.program, "solve", "--", "pattern", lines[0]]).splitlines()
+        expect(answer == ["one", *changed], f"{rows}: {answer}")
+        expect((bench.folder / "mended.pbm").read_bytes() == plain(changed).replace(b"# a drawing\n", b"") + b"\n", "another PBM")
+    status, lines, errors = looked_at(bench, plain(drawings[0][:4]), "--mend", "/proc/none.pbm")
+    expect(status == 6 and "/proc/none.pbm" in errors.splitlines()[-1], f"status {status}: {errors}")
+    bench.told([DEBIAN, DRAWING, "--changes", "0", "drawing"], 2, "changes are 1 to")
+
+
+def photos(bench):
+    """a picture of many greys is scaled to cells, and cut where it is told; a share of black is what it was"""
+    grey = b"P5\n200 100\n255\n" + bytes(255 * x // 200 for _ in range(100) for x in range(200))
+    for dark, black in ((50, 10), (25, 5), (80, 16)):
+        status, lines, errors = looked_at(bench, grey, "--width", "20", "--dark", str(dark))
+        expect(status == 0 and lines[0] == id_of(["#" * black + "." * (20 - black)] * 10), f"{dark}: {status} {lines} {errors}")
+    status, lines, errors = looked_at(bench, grey)
+    expect(status == 2 and "--width scales it" in errors and errors.count("\n") == 1, errors)
+    status, lines, errors = looked_at(bench, b"P5\n100 9000\n255\n" + bytes(900_000), "--width", "20")
+    expect(status == 2 and "at most 120 each way" in errors, errors)
+    for words in (["--width", "0"], ["--width", "121"], ["--dark", "101"], ["--dark", "nan"]):
+        bench.told([DEBIAN, DRAWING, *words, "drawing"], 2, "a width is 1 to 120")
+
+
+CASES = [one, several, mended, photos, faults]

@@ -41,7 +41,7 @@ def installed(bench):
 def manual(bench):
     """the manual page has no warning, `man` finds and shows it, and its lines answer"""
     path = installed(bench)
-    done = bench.run(["mandoc", "-T", "lint", TOP / "docs" / "puzzles.1"])
+    done = bench.run(["mandoc", "-T", "lint", "-W", "warning", TOP / "docs" / "puzzles.1"])
     expect(done.returncode == 0 and not done.stdout and not done.stderr, done.stdout + done.stderr)
     found = bench.good(["man", "-w", "puzzles"], PATH=path).strip()
     expect(found.startswith(str(bench.folder)), f"man finds {found}")

@@ -1,27 +1,32 @@
 """The chapters of a book: what they ask for."""
 import argparse
 import dataclasses
+import pathlib
 
-from lib.reader import GAMES, Refused, empty, read
-from lib.writer import grid
+from lib.work import Fault
+from outputs import rows_of
+from puzzles.ids import GAMES, Refused, empty, lines, read, read_grid, written
 
 MOST_PUZZLES = 5000
 MOST_TRIALS = 20  # of a hard puzzle
 MOST_EASY_BY_SEED = 9  # cells a side
 RULE_SETS = {"solo": ("singles", "houses", "crossings"), "pattern": ("lines",), "lightup": ("local",), "tents": ("local",)}
-LEVELS = ("easy", "medium", "hard", "any")
+LEVELS = ("easy", "houses", "crossings", "medium", "hard", "any")
+SOLO_LEVELS = ("houses", "crossings")
 
 
 @dataclasses.dataclass(frozen=True)
 class Chapter:
+    """`size` is a file's name, if the chapter takes its puzzles from a file, and then `ids` has them."""
     game: str
     size: str
     level: str
     count: int
+    ids: tuple = ()
 
     def budget(self):
-        """Trials for a test whether a clue may go: without any the puzzle needs none either."""
-        return 0 if self.level in ("easy", "medium") else MOST_TRIALS
+        """Trials for a test whether a clue may go: without any the puzzle needs none either. The search goes by `houses`."""
+        return 0 if self.level in ("easy", "houses", "medium") else MOST_TRIALS
 
     def is_large_and_easy(self):
         """Whether seeds seldom give a Solo of this level, since `generate` takes clues away as long as sets do for the rest."""
@@ -32,6 +37,8 @@ class Chapter:
         word, _, trials = grade.partition(" ")
         if word == "search":
             return self.level == "any" or self.level == "hard" and 1 < int(trials) <= MOST_TRIALS
+        if self.level in SOLO_LEVELS:
+            return word == self.level
         levels = ("easy", "any") if word == "singles" else ("medium", "any") if self.game == "solo" else ("easy", "medium", "any")
         return word in RULE_SETS[self.game] and self.level in levels
 
@@ -53,7 +60,8 @@ class Chapter:
 
 @dataclasses.dataclass(frozen=True)
 class Made:
-    seed: int
+    """A puzzle; one of a file has no seed."""
+    seed: object
     id: str
     answer: list
     grade: str
@@ -62,16 +70,51 @@ class Made:
     def puzzle(self, game):
         """The puzzle, and the signs of its solution."""
         puzzle = read(game, self.id)
-        return puzzle, grid(puzzle, self.answer)
+        return puzzle, read_grid(puzzle, self.answer)
+
+
+def ids_of(game, path):
+    """The written IDs of a file: of each line one, or of a book's table those of the game."""
+    if path.suffix == ".csv":
+        given = [row["id"].encode() for row in rows_of(path) if row["game"] == game]
+    else:
+        with open(path, "rb") as file:
+            given = [line for line in lines(file) if line.strip()]
+    found = {}
+    for number, text in enumerate(given, 1):
+        try:
+            one = written(read(game, text))
+        except Refused as fault:
+            raise argparse.ArgumentTypeError(f"{path}: ID {number} is refused: {fault}") from None
+        if one in found:
+            raise argparse.ArgumentTypeError(f"{path}: ID {number} is the puzzle of ID {found[one]} again")
+        found[one] = number
+    return tuple(found)
+
+
+def of_file(game, path):
+    """GAME:@FILE, a chapter of the IDs in a file."""
+    try:
+        ids = ids_of(game, path)
+    except OSError as fault:
+        raise argparse.ArgumentTypeError(f"{path}: {fault.strerror}") from None
+    except Fault as fault:
+        raise argparse.ArgumentTypeError(str(fault)) from None
+    if not 1 <= len(ids) <= MOST_PUZZLES:
+        raise argparse.ArgumentTypeError(f"{path} has {len(ids)} puzzles of {game}, and a chapter 1 to {MOST_PUZZLES}")
+    return Chapter(game, path.stem, "any", len(ids), ids)
 
 
 def chapter(word):
-    """GAME:SIZE:LEVEL:COUNT, as a word of the command line."""
+    """GAME:SIZE:LEVEL:COUNT or GAME:@FILE, as a word of the command line."""
+    game, at, name = word.partition(":@")
+    if at and game in GAMES:
+        return of_file(game, pathlib.Path(name))
     game, size, level, count, *more = [*word.split(":"), "", "", "", ""][:max(4, word.count(":") + 1)]
     is_count = count.isdecimal() and count.isascii() and 1 <= int(count[:5]) <= MOST_PUZZLES
     if game not in GAMES or level not in LEVELS or not is_count or more:
         raise argparse.ArgumentTypeError(
-            f"{word} isn't GAME:SIZE:LEVEL:COUNT as solo:3x3:easy:20. The games are {', '.join(GAMES)}, "
+            f"{word} isn't GAME:SIZE:LEVEL:COUNT as solo:3x3:easy:20, or GAME:@FILE. The games are {', '.join(GAMES)}, "
             f"the levels {', '.join(LEVELS)}, and a chapter has at most {MOST_PUZZLES} puzzles")
     try:
         puzzle = empty(game, size)
@@ -79,4 +122,6 @@ def chapter(word):
         raise argparse.ArgumentTypeError(f"{word}: the size {size} is refused: {fault}") from None
     if game == "tents" and min(puzzle.width, puzzle.height) < 4:
         raise argparse.ArgumentTypeError(f"{word}: Tents are made of 4x4 at least")
+    if level in SOLO_LEVELS and game != "solo":
+        raise argparse.ArgumentTypeError(f"{word}: {level} is a level of Solo alone")
     return Chapter(game, puzzle.size, level, int(count))

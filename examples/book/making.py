@@ -2,13 +2,14 @@
 import collections
 import concurrent.futures
 import contextlib
+import functools
 import itertools
 import os
 
 from chapters import Made
-from lib.reader import read
-from lib.work import Fault
-from lib.writer import written
+from lib.effort import effort
+from lib.work import REFUSED, Fault
+from puzzles.ids import read, written
 from thinning import thinned
 
 SEEDS_FOR_ONE = 1000  # that are tried for each puzzle, at most
@@ -31,6 +32,13 @@ class Maker:
         found = self.journal.get(key)
         return found and Made(seed, *found)
 
+    def taken(self, game, text):
+        """A puzzle of a file, which must have one solution."""
+        verdict, *answer = self.program.ask("solve", "--", game, text)
+        if verdict != "one":
+            raise Fault(f"no puzzle for a book, since `solve` answers {verdict}: {text}", REFUSED)
+        return Made("", text, answer, self.program.ask("grade", "--", game, text)[0], 0)
+
     def made(self, asked, seed):
         ask, is_crossed = self.program.ask, asked.size.endswith("x")
         budget = CROSSED_TRIALS if is_crossed else asked.budget()
@@ -43,7 +51,7 @@ class Maker:
         if is_crossed or asked.is_large_and_easy() or asked.game == "solo" and self.is_symmetric:
             text = written(thinned(read("solo", text), answer, seed, self.test(asked), self.is_symmetric))
         grade, *trace = ask("grade", "--trace", "--", asked.game, text)
-        return text, answer, grade, effort(asked.game, read(asked.game, text), trace)
+        return text, answer, grade, effort(read(asked.game, text), trace)
 
     def test(self, asked):
         """Tells of an ID of Solo, from which clues were taken, whether they may go."""
@@ -53,22 +61,19 @@ class Maker:
         return lambda text: self.program.ask(*words, "--", "solo", text)[0] == wanted
 
 
-def effort(game, puzzle, trace):
-    """How long deduction is: visits for each line of Solo and Pattern, sweeps of the others."""
-    if game in ("solo", "pattern"):
-        return round(len(trace) / (puzzle.width + puzzle.height), 2)
-    return int(trace[0].split()[1]) if trace else 0
-
-
 def fill(maker, chapters, first, bar):
-    """The puzzles of each chapter, by ascending seeds. Chapters take turns at the seeds, so no grid is there twice."""
-    found, done = [], 0
+    """The puzzles of each chapter: of its file, or by ascending seeds. Chapters take turns at these, so no grid comes twice."""
+    found, done, turns, step = [], 0, itertools.count(first), sum(not one.ids for one in chapters)
     with concurrent.futures.ThreadPoolExecutor(os.cpu_count()) as pool:
         try:
-            for number, asked in enumerate(chapters):
-                start, step = first + number, len(chapters)
-                made = in_order(maker, pool, asked, range(start, start + SEEDS_FOR_ONE * asked.count * step, step))
-                found.append(fill_one(asked, made, lambda count, seed: bar.tell(done + count, f", seed {seed}")))
+            for asked in chapters:
+                tell = functools.partial(told, bar, done)
+                if asked.ids:
+                    found.append(list(progress(pool.map(functools.partial(maker.taken, asked.game), asked.ids), tell)))
+                else:
+                    start = next(turns)
+                    made = in_order(maker, pool, asked, range(start, start + SEEDS_FOR_ONE * asked.count * step, step))
+                    found.append(fill_one(asked, made, tell))
                 done += asked.count
         except BaseException:
             maker.program.stop()
@@ -77,6 +82,16 @@ def fill(maker, chapters, first, bar):
         finally:
             bar.end()
     return found
+
+
+def told(bar, before, count, seed=None):
+    bar.tell(before + count, "" if seed is None else f", seed {seed}")
+
+
+def progress(made, tell):
+    for count, one in enumerate(made, 1):
+        tell(count)
+        yield one
 
 
 def in_order(maker, pool, asked, seeds):

@@ -2,12 +2,12 @@
 import dataclasses
 import random
 
-from lib.writer import grid, written
+from puzzles.ids import read_grid, written
 
 
 def thinned(puzzle, answer, seed, is_good, is_symmetric):
     """A puzzle of Solo with this answer, of which no clue or pair of clues may go. `is_good` tells of an ID whether they may."""
-    full = grid(puzzle, answer)
+    full = read_grid(puzzle, answer)
     puzzle = dataclasses.replace(puzzle, cells=[*full])
     places = range(len(full))
     groups = [*zip(places, reversed(places))][:(len(full) + 1) // 2] if is_symmetric else [*zip(places)]

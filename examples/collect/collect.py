@@ -4,6 +4,10 @@
     collect.py add puzzles.db solo ids.txt            takes the lines of a file in, and grades what is new, on all cores
     collect.py add --later puzzles.db solo ids.txt    takes them in alone
     collect.py grade puzzles.db solo                  grades what has no verdict yet
+    collect.py measure puzzles.db pattern             counts the steps of the deduction of what has one solution
+    collect.py forms puzzles.db solo                  finds the form of each puzzle: turned or mirrored ones have the same
+    collect.py list --grade search --most 10 puzzles.db solo     prints IDs, the hardest first; --csv, --json: all columns
+    collect.py forget puzzles.db solo ids.txt         takes a file back
     collect.py open puzzles.db solo > new.txt         prints the IDs without a verdict, for a job on other machines
     collect.py grades puzzles.db solo new.txt grades.txt      takes in what `grade` answered to each line of new.txt
 
@@ -13,20 +17,28 @@ Statuses: 0; 2 words refused, or lines of the file; 6 a fault of a file or the t
 stopped.
 """
 import argparse
+import contextlib
+import functools
 import itertools
+import multiprocessing
 import os
 import pathlib
+import signal
 import sys
 
-sys.path.append(str(pathlib.Path(__file__).resolve().parent.parent))
-from grading import ID_SECONDS, answers  # noqa: E402
-from lib.reader import GAMES, Refused, lines, read  # noqa: E402
+sys.path.insert(0, str(pathlib.Path(__file__).resolve().parent.parent))
+from forms import form  # noqa: E402
+from grading import ID_SECONDS, Grader, Measurer  # noqa: E402
+from lib.effort import effort  # noqa: E402
 from lib.work import REFUSED, Bar, Fault, Program, begin  # noqa: E402
-from lib.writer import written  # noqa: E402
-from table import Table  # noqa: E402
+from listing import print_rows  # noqa: E402
+from puzzles.ids import GAMES, Refused, lines, read, written  # noqa: E402
+from table import NO_GRADES, RULE_SETS, Table  # noqa: E402
 
 STEP = 1000  # lines in a transaction
 TOLD = 10  # refused lines that are told one by one
+WITH_PROGRAM = ("add", "grade", "measure")
+OPEN, TO_MEASURE, WITHOUT_FORM = "verdict IS NULL", "verdict = 'one' AND effort IS NULL", "form IS NULL"
 
 
 def add(asked, table):
@@ -47,6 +59,9 @@ def add(asked, table):
             taken += sum(len(line) + 1 for line in step)
             bar.tell(taken)
         bar.end()
+    other = table.same_file(asked.source, asked.game)
+    if other:
+        print(f"{asked.source} has the lines of {other}, so each is met once more: `forget` takes it back", file=sys.stderr)
     if refused > TOLD:
         print(f"{refused} lines in all are no IDs: the table `refusal` has them", file=sys.stderr)
     return REFUSED if refused else 0
@@ -61,18 +76,48 @@ def row(game, line):
     return (written(puzzle), puzzle.size, puzzle.count_clues()), None
 
 
-def grade(asked, table):
-    """Grades what has no verdict, a part at a time."""
-    program, wanted = Program(asked.program, ID_SECONDS), table.count_open(asked.game)
-    bar, done = Bar("graded", wanted), 0
+def all_done(bar, parts, keep):
+    """Keeps each part of what is to be done, as it comes."""
+    done = 0
     try:
-        for part in answers(program, asked.game, asked.budget, table.open_ids(asked.game)):
-            table.grade(asked.game, part)
+        for part in parts:
+            keep(part)
             done += len(part)
             bar.tell(done)
     finally:
-        program.stop()
         bar.end()
+
+
+def grade(asked, table):
+    """Grades what has no verdict, a part at a time."""
+    bar, program = Bar("graded", table.count(asked.game, OPEN)), Program(asked.program, ID_SECONDS)
+    with contextlib.closing(Grader(program, asked.game, asked.budget).answers(table.ids(asked.game, OPEN))) as parts:
+        all_done(bar, parts, functools.partial(table.grade, asked.game))
+
+
+def measure(asked, table):
+    """Counts the steps of the deduction of what has one solution."""
+    bar, program = Bar("measured", table.count(asked.game, TO_MEASURE)), Program(asked.program, ID_SECONDS)
+    measurer = Measurer(program, asked.game, lambda game, text, trace: effort(read(game, text), trace))
+    with contextlib.closing(measurer.measures(table.ids(asked.game, TO_MEASURE))) as parts:
+        all_done(bar, parts, functools.partial(table.set, "effort", asked.game))
+
+
+def leave_signals():
+    """A process of a pool ends when its parent ends it, and not by Ctrl-C."""
+    signal.signal(signal.SIGINT, signal.SIG_IGN)
+    signal.signal(signal.SIGTERM, signal.SIG_DFL)
+
+
+def find_forms(asked, table):
+    """Finds the forms of puzzles, on all cores."""
+    bar, ids = Bar("forms", table.count(asked.game, WITHOUT_FORM)), table.ids(asked.game, WITHOUT_FORM)
+    with multiprocessing.Pool(os.cpu_count(), leave_signals) as pool:
+        parts = iter(lambda: list(itertools.islice(ids, STEP)), [])
+        all_done(bar, (list(zip(part, pool.map(functools.partial(form, asked.game), part, 50))) for part in parts),
+                 functools.partial(table.set, "form", asked.game))
+    found = table.base.execute("SELECT count(*), coalesce(sum(count), 0) FROM doubles WHERE game = ?", (asked.game,)).fetchone()
+    print("{:,} forms are of {:,} puzzles: the view `doubles` has them".format(*found))
 
 
 def take_grades(asked, table):
@@ -89,43 +134,74 @@ def take_grades(asked, table):
                             "before are taken", REFUSED)
 
 
+def forget(asked, table):
+    _, refusals, puzzles = table.forget(asked.file, asked.game)
+    print(f"{puzzles:,} puzzles and {refusals:,} refusals are gone; puzzles that were met again stay")
+
+
 def words():
-    form = argparse.ArgumentParser(description=__doc__, formatter_class=argparse.RawDescriptionHelpFormatter)
-    does = form.add_subparsers(dest="does", required=True, metavar="add|grade|open|grades")
-    for name in ("add", "grade", "open", "grades"):
+    form_of_words = argparse.ArgumentParser(description=__doc__, formatter_class=argparse.RawDescriptionHelpFormatter)
+    does = form_of_words.add_subparsers(dest="does", required=True, metavar="|".join(COMMANDS))
+    for name in COMMANDS:
         one = does.add_parser(name)
-        if name in ("add", "grade"):
+        if name in WITH_PROGRAM:
             one.add_argument("--program", default="puzzles", help="where `puzzles` is (puzzles, on the path)")
+        if name in ("add", "grade"):
             one.add_argument("--budget", type=int, default=100_000, help="trials for a puzzle (100000)")
         if name == "add":
             one.add_argument("--later", action="store_true", help="don't grade")
             one.add_argument("--source", help="the name of the file in the table (the file as it is written)")
+        if name == "list":
+            list_words(one)
         one.add_argument("table", help="the SQLite file; made if it isn't there")
         one.add_argument("game", choices=GAMES)
-        for more in {"add": ["file"], "grades": ["ids", "answers"]}.get(name, []):
+        for more in {"add": ["file"], "forget": ["file"], "grades": ["ids", "answers"]}.get(name, []):
             one.add_argument(more)
-    asked = form.parse_args()
+    asked = form_of_words.parse_args()
     if not 0 <= getattr(asked, "budget", 0) < 2**64:
-        form.error("a budget is 0 to 18446744073709551615")
+        form_of_words.error("a budget is 0 to 18446744073709551615")
+    if not 0 < getattr(asked, "most", 1) < 2**63:
+        form_of_words.error("--most is at least 1")
     return asked
 
 
-def main():
-    asked, status = words(), 0
-    with Table(asked.table) as table:
-        if asked.does == "add":
-            asked.source = asked.source or asked.file
-            status = add(asked, table)
-        if asked.does == "grade" or asked.does == "add" and not asked.later:
-            grade(asked, table)
-        if asked.does == "grades":
-            take_grades(asked, table)
-        if asked.does == "open":
-            for text in table.open_ids(asked.game):
-                print(text)
-        else:
-            print(table.summary(asked.game))
+def list_words(one):
+    one.add_argument("--grade", choices=(*RULE_SETS, "search", *NO_GRADES), help="of this grade or verdict alone (one solution)")
+    one.add_argument("--most", type=int, default=2**63 - 1, help="so many at most (all)")
+    one.add_argument("--apart", action="store_true", help="of puzzles with one form the first alone")
+    kinds = one.add_mutually_exclusive_group()
+    kinds.add_argument("--csv", dest="kind", action="store_const", const="csv", default="ids", help="all columns as CSV")
+    kinds.add_argument("--json", dest="kind", action="store_const", const="json", help="all columns as JSON, an object a line")
+
+
+def add_and_grade(asked, table):
+    asked.source = asked.source or asked.file
+    status = add(asked, table)
+    if not asked.later:
+        grade(asked, table)
     return status
+
+
+def print_open(asked, table):
+    for text in table.ids(asked.game, OPEN):
+        print(text)
+
+
+def print_list(asked, table):
+    print_rows(table.listed(asked.game, asked.grade, asked.most, asked.apart), asked.kind)
+
+
+COMMANDS = {"add": add_and_grade, "grade": grade, "measure": measure, "forms": find_forms, "list": print_list, "forget": forget,
+            "open": print_open, "grades": take_grades}
+
+
+def main():
+    asked = words()
+    with Table(asked.table) as table:
+        status = COMMANDS[asked.does](asked, table)
+        if asked.does not in ("open", "list"):
+            print(table.summary(asked.game))
+    return status or 0
 
 
 if __name__ == "__main__":

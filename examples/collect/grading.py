@@ -1,6 +1,8 @@
-"""Has `grade` answer many IDs, on all cores.
+"""Has the program answer many IDs, on all cores.
 
-`grade` takes one ID a process. A shell begins processes faster than Python does, so each part of the IDs is a loop of `sh`.
+`solve` takes lines, tens of thousands a second, and `grade` one ID a process. Their answers agree: with the same budget each
+verdict but `one` is the same, and a game's only rule set is the grade exactly where `solve --budget 0` answers `one`. So `grade`
+is asked where those two don't tell. A shell begins processes faster than Python does, so each part of the IDs is a loop of `sh`.
 Written IDs have no byte that a shell or `read` would change.
 """
 import concurrent.futures
@@ -12,15 +14,91 @@ from lib.work import Fault, Late
 LOOP = 'while read -r id; do "$@" "$id" || [ $? -le 4 ] || exit 9; done'
 PART, PART_SECONDS, ID_SECONDS = 100, 30, 60
 AHEAD = 2  # parts for each core that wait
+ONLY_RULE_SETS = {"pattern": "lines", "lightup": "local", "tents": "local"}
 
 
-def answers(program, game, budget, ids):
-    """Parts of the IDs, each with its answer, as they come. One that takes longer than its clock is answered `clock`."""
+class Grader:
+    """Grades IDs of a game with a budget."""
+
+    def __init__(self, program, game, budget):
+        self.program, self.game, self.budget = program, game, str(budget)
+
+    def answers(self, ids):
+        """Parts of the IDs, each with its answer, as they come. One that takes longer than its clock is answered `clock`."""
+        yield from on_all_cores(self.program, self.answer_part, ids)
+
+    def answer_part(self, part):
+        """The answers to a part: of `solve` without a trial where they tell the grade, else of `grade`."""
+        known = dict(zip(part, self.told_without_trials(part))) if self.game in ONLY_RULE_SETS else {}
+        left = [text for text in part if not known.get(text)]
+        return [(text, known.get(text)) for text in part if known.get(text)] + (self.graded(left) if left else [])
+
+    def told_without_trials(self, part):
+        """Of each ID the grade, or None where `solve --budget 0` doesn't tell it."""
+        words = [self.program.path, "solve", self.game, "--budget", "0"]
+        try:
+            lines, status = self.program.run(words, as_lines(part), PART_SECONDS)
+        except Late:
+            return [None] * len(part)
+        verdicts = [line for line in lines if line[:1].islower()]  # no row of a grid begins so
+        if status not in range(5) or len(verdicts) != len(part):
+            return [None] * len(part)
+        grades = {"one": ONLY_RULE_SETS[self.game], "none": "none", "several": "several"}
+        return [grades.get(verdict) for verdict in verdicts]
+
+    def graded(self, part):
+        """The answers of one shell; if it fails, of a process for each ID."""
+        words = ["grade", self.game, "--budget", self.budget, "--"]
+        try:
+            lines, status = self.program.run(["sh", "-c", LOOP, "sh", self.program.path, *words], as_lines(part), PART_SECONDS)
+        except Late:
+            lines, status = [], None
+        if status == 0 and len(lines) == len(part):
+            return list(zip(part, lines))
+        return [(text, self.answer_alone([*words, text])) for text in part]
+
+    def answer_alone(self, words):
+        try:
+            lines = self.program.ask(*words)
+        except Late:
+            return "clock"
+        if len(lines) != 1:
+            raise Fault(f"{self.program.path} {' '.join(words)} answered {len(lines)} lines")
+        return lines[0]
+
+
+class Measurer:
+    """Counts how long the deduction of IDs is."""
+
+    def __init__(self, program, game, effort):
+        self.program, self.game, self.effort = program, game, effort
+
+    def measures(self, ids):
+        """Parts of the IDs, each with its effort; None where the clock ends the count."""
+        yield from on_all_cores(self.program, self.measure_part, ids)
+
+    def measure_part(self, part):
+        return [(text, self.measure(text)) for text in part]
+
+    def measure(self, text):
+        try:
+            _, *trace = self.program.ask("grade", "--trace", "--", self.game, text)
+        except Late:
+            return None
+        return self.effort(self.game, text, trace)
+
+
+def as_lines(part):
+    return "".join(f"{text}\n" for text in part)
+
+
+def on_all_cores(program, work, ids):
+    """What a function comes to for parts of the IDs, as it comes."""
     waiting, cores = set(), os.cpu_count() or 1
     with concurrent.futures.ThreadPoolExecutor(cores) as pool:
         try:
             while part := list(itertools.islice(ids, PART)):
-                waiting.add(pool.submit(answer_part, program, [program.path, "grade", game, "--budget", str(budget), "--"], part))
+                waiting.add(pool.submit(work, part))
                 if len(waiting) > AHEAD * cores:
                     yield from results(waiting)
             while waiting:
@@ -37,24 +115,3 @@ def results(waiting):
     for part in done:
         waiting.discard(part)
         yield part.result()
-
-
-def answer_part(program, words, part):
-    """The answers of one shell; if it fails, of a process for each ID."""
-    try:
-        lines, status = program.run(["sh", "-c", LOOP, "sh", *words], "".join(f"{text}\n" for text in part), PART_SECONDS)
-    except Late:
-        lines, status = [], None
-    if status == 0 and len(lines) == len(part):
-        return list(zip(part, lines))
-    return [(text, answer_alone(program, words[1:], text)) for text in part]
-
-
-def answer_alone(program, words, text):
-    try:
-        lines = program.ask(*words, text)
-    except Late:
-        return "clock"
-    if len(lines) != 1:
-        raise Fault(f"{program.path} {' '.join(words)} {text} answered {len(lines)} lines")
-    return lines[0]

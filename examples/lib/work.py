@@ -31,7 +31,8 @@ class Program:
     """The program `puzzles`. Calls may come from many threads, and `stop` ends those that run."""
 
     def __init__(self, name, seconds=300):
-        self.path, self.seconds = shutil.which(name), seconds
+        beside = os.path.dirname(sys.argv[0])  # where a package puts both
+        self.path, self.seconds = shutil.which(name) or shutil.which(name, path=beside), seconds
         self.running, self.lock, self.is_stopped = set(), threading.Lock(), False
         if not self.path:
             raise Fault(f"no program {name} that can be run: say where `puzzles` is by --program")

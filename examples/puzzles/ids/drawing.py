@@ -1,9 +1,13 @@
 """Draws puzzles and their grids as SVG, black on white, with lengths in cells."""
 import html
+from typing import Collection, Optional, Sequence
+
+from .reader import Puzzle
 
 TREE = "M.5 .1 .84 .64H.56V.9H.44V.64H.16Z"
 TENT = "M.5 .2 .86 .8H.14Z"
-NUMBER_SIZE, CLUE_SIZE, CLUE_STEP = .6, .5, .62
+NUMBER_SIZE, SOLVED_SIZE, CLUE_SIZE, CLUE_STEP = .6, .78, .5, .62
+TWO_DIGITS = .8  # of the size of one digit
 DIGIT_WIDTH, DIGIT_HEIGHT = .64, .73  # of a font's size, for DejaVu Sans
 MARGIN = .06
 
@@ -22,16 +26,26 @@ class Room:
         self.width, self.height = self.left + puzzle.width + self.right, self.top + puzzle.height + self.below
 
 
+def number_size(puzzle: Puzzle, is_solution: bool) -> float:
+    """The font's size for the smallest number that may stand in a cell. In a solution nobody writes, so it is larger."""
+    return (SOLVED_SIZE if is_solution else NUMBER_SIZE) * (TWO_DIGITS if puzzle.block and puzzle.width > 9 else 1)
+
+
 def clue_width(clue):
     return sum(len(str(number)) * CLUE_SIZE * DIGIT_WIDTH + .3 for number in clue)
 
 
-def svg(puzzle, cells=None, cell=10.0, marked=(), name=""):
-    """The puzzle, or one of its grids where the signs of all cells are given. A cell has so many millimetres. What the places
-    in `marked` have is hatched."""
+def svg(puzzle: Puzzle, cells: Optional[Sequence[str]] = None, cell: float = 10.0,
+        marked: Collection[int] = (), name: str = "") -> str:
+    """The puzzle as SVG, or one of its grids if the signs of all cells are given.
+
+    `cell` is the side of a cell in millimetres. The cells at the places in `marked` have a cross.
+    `name` is what a screen reader says.
+    """
     room, is_solution = Room(puzzle, cells is not None), cells is not None
     box = f"{-room.left:.2f} {-room.top:.2f} {room.width:.2f} {room.height:.2f}"
-    parts = [*ground(puzzle, cells or puzzle.cells), *lines(puzzle), *signs(puzzle, cells or puzzle.cells),
+    parts = [*ground(puzzle, cells or puzzle.cells), *lines(puzzle),
+             *signs(puzzle, cells or puzzle.cells, number_size(puzzle, is_solution)),
              *([] if is_solution else clues(puzzle)), *crosses(puzzle, marked)]
     return (f'<svg xmlns="http://www.w3.org/2000/svg" width="{room.width * cell:.2f}mm" height="{room.height * cell:.2f}mm" '
             f'viewBox="{box}" role="img" aria-label="{html.escape(name)}" font-family="DejaVu Sans, sans-serif" '
@@ -55,22 +69,22 @@ def ground(puzzle, cells):
 def lines(puzzle):
     """The thin lines of the grid, and the thick ones of blocks, of each fifth line of Pattern, and around."""
     across, down = puzzle.block or ((5, 5) if puzzle.game == "pattern" else (puzzle.width, puzzle.height))
-    for is_thick, width in ((False, .03), (True, .08)):
+    for is_thick, width, colour in ((False, .03, "#777"), (True, .08, "#000")):
         upright = [x for x in range(puzzle.width + 1) if (x % across == 0 or x == puzzle.width) == is_thick]
         level = [y for y in range(puzzle.height + 1) if (y % down == 0 or y == puzzle.height) == is_thick]
         path = "".join([f"M{x} 0V{puzzle.height}" for x in upright] + [f"M0 {y}H{puzzle.width}" for y in level])
         if path:
-            yield f'<path d="{path}" stroke="#000" stroke-width="{width}" stroke-linecap="square" fill="none"/>'
+            yield f'<path d="{path}" stroke="{colour}" stroke-width="{width}" stroke-linecap="square" fill="none"/>'
 
 
-def signs(puzzle, cells):
-    """What stands in the cells: numbers, trees, tents and bulbs."""
+def signs(puzzle, cells, size):
+    """What stands in the cells: numbers of a size, trees, tents and bulbs."""
     for place, sign in enumerate(cells):
         x, y = place % puzzle.width, place // puzzle.width
         if sign.isdigit():
             is_given = puzzle.game == "solo" and puzzle.cells[place]
             more = ' fill="#fff"' if puzzle.game == "lightup" else ' font-weight="bold"' if is_given else ""
-            yield number(x + .5, y + .5, sign, NUMBER_SIZE if len(sign) == 1 else NUMBER_SIZE * .88, more)
+            yield number(x + .5, y + .5, sign, size, more)
         elif sign == "O":
             yield f'<circle cx="{x + .5}" cy="{y + .5}" r=".28" fill="none" stroke="#000" stroke-width=".09"/>'
         elif sign in ("T", "^"):

@@ -1,9 +1,13 @@
 """Writes the one ID of a puzzle as section 3 of docs/FORMATS.md says, and reads printed grids."""
+from typing import List, Sequence
+
+from .reader import Puzzle
+
 SIGNS = {"pattern": "#.", "lightup": "O.", "tents": "^."}
 
 
-def written(puzzle):
-    """Two IDs are of one puzzle exactly if they are written the same."""
+def written(puzzle: Puzzle) -> str:
+    """The written ID. Two IDs are of one puzzle exactly if they are written the same."""
     return f"{puzzle.size}:{WRITERS[puzzle.game](puzzle)}"
 
 
@@ -36,8 +40,8 @@ def write_tents(puzzle):
     return "".join(out) + "".join(f",{clue[0]}" for clue in puzzle.clues)
 
 
-def grid(puzzle, lines):
-    """The signs of all cells of a printed grid; ValueError if it is no grid of the puzzle."""
+def read_grid(puzzle: Puzzle, lines: Sequence[str]) -> List[str]:
+    """The signs of all cells of a printed grid, row by row; ValueError if it is no grid of the puzzle."""
     rows = [line.split(" ") if puzzle.block else list(line) for line in lines]
     if len(rows) != puzzle.height or any(len(row) != puzzle.width for row in rows):
         raise ValueError(f"it hasn't {puzzle.height} rows of {puzzle.width} cells")
