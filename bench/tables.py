@@ -79,7 +79,7 @@ def minutes(text):
 def crates_below():
     """Of each crate those that it stands on."""
     lines = (TOP / "crates.txt").read_text().splitlines()
-    return {name: more.split() for name, _, more in (line.partition(":") for line in lines) if name}
+    return {kind.split()[0]: more.split() for kind, _, more in (line.partition(":") for line in lines) if kind}
 
 
 def gate_table(log):

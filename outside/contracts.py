@@ -14,9 +14,9 @@ TOP = pathlib.Path(__file__).resolve().parent.parent
 HANDING_ON = {"Common", "Below"}
 
 # The program hands nothing on; these are what may be called with ends of one's own.
-PROGRAM = {"run", "run_on_bytes", "ReadEnd", "WriteEnd"}
+PROGRAM = {"run", "run_on_bytes"}
 
-FUNCTION = re.compile(r" *(pub )?(?:pub\(crate\) )?(?:final )?fn (\w+)")
+FUNCTION = re.compile(r" *(pub )?(?:pub\(crate\) )?(?:final )?(?:extern \"C\" )?fn (\w+)")
 CLAUSE = re.compile(r" *(?:ensures(?: (\w+))?|requires(?: (\w+))?) \{")
 GHOST = re.compile(r" *ghost (\w+)(?: =|:) ")
 WORD = r"[\w'-]+"
@@ -128,14 +128,19 @@ def handed_on(crate):
 
 @functools.cache
 def public_calls(crate):
-    """The public functions of a crate, without the members of traits."""
-    return [call for call in functions(crate) if call.is_public and (call.kind or call.name) in handed_on(crate)]
+    """The public functions of a crate, and the members of traits that it hands on."""
+    return [call for call in functions(crate) if call.is_public and (call.kind or call.name) in handed_on(crate) or is_member(call)]
+
+
+def is_member(call):
+    """Whether it is the trait's own, of a trait that its crate hands on."""
+    return bool(call.trait) and not call.kind and call.trait in handed_on(TOP / "crates" / call.crate)
 
 
 def public_clauses(crate):
     """Whatever a caller of a crate may rely on: the file, a name, and the text of its contract or of a trait's ghost member."""
     for call in functions(crate):
-        if call in public_calls(crate) or call.trait in handed_on(crate) and not call.kind:
+        if call in public_calls(crate):
             yield call.file, call.told(), "\n".join(call.clauses.values())
     for (trait, kind), members in ghosts(crate).items():
         if trait in handed_on(crate) and not kind:

@@ -5,11 +5,13 @@
   a label, as [engine_core/Walk], has its line at the end, and each such line is used.
 - Tables that stand in two documents agree: words, limits, commands and statuses of README.md and docs/FORMATS.md, and those of
   README.md and the manual page, docs/puzzles.1. README.md has the number of wrong bodies. The minutes of docs/CONTRIBUTING.md
-  are the sums of the gate's table in bench/README.md.
+  are the sums of the gate's table in bench/README.md. The numbers of docs/FIFTH_GAME.md are those of the tree.
+- Each example of docs/CALLING.md stands in the file that is named above it.
 - A line has at most 130 columns and a sentence at most 25 words, outside of tables, code and the theorem that is quoted.
 - What docs/DECISIONS.md and docs/PROOF.md name in code marks is in the crates, or a place, a word or a game of the program, but
   behind *Tried* and *Weighed*.
-- Each script that a document names can be run, prints a text of its own by --help, and meets a wrong word without a traceback.
+- Each script that a document names, a file that begins with #!, can be run, prints a text of its own by --help, and meets a wrong
+  word without a traceback.
 
 Prints what is not so; the exit status is 1 if anything is.
 """
@@ -22,6 +24,7 @@ import sys
 
 sys.dont_write_bytecode = True
 sys.path.append(str(pathlib.Path(__file__).resolve().parent.parent / "bench"))
+import fifth_game  # noqa: E402
 import tables  # noqa: E402
 
 TOP = pathlib.Path(__file__).resolve().parent.parent
@@ -33,7 +36,8 @@ NAME = re.compile(r"[A-Za-z_][\w-]*\w")
 
 
 def documents():
-    return sorted(path for places in ("*.md", "docs/*.md", "*/README.md", "examples/*/README.md") for path in TOP.glob(places))
+    places = "*.md", "docs/*.md", "*/README.md", "bench/TRIED.md", "examples/*/README.md"
+    return sorted(path for place in places for path in TOP.glob(place))
 
 
 def plain_lines(text):
@@ -148,7 +152,7 @@ def by_manual():
 
 
 def numbers():
-    """What is wrong with the number of wrong bodies in README.md, and with the minutes in docs/CONTRIBUTING.md."""
+    """What is wrong with the number of wrong bodies in README.md, the minutes in docs/CONTRIBUTING.md and the counts of Tents."""
     told = re.findall(r"(\d+) wrong bodies", (TOP / "README.md").read_text())
     there = len([*TOP.glob("crates/*/must-fail/*.edit")])
     if told != [str(there)]:
@@ -156,6 +160,17 @@ def numbers():
     changes = tables.CHANGES.read_text()
     if changes != tables.with_minutes(changes, tables.FIGURES.read_text()):
         yield "docs/CONTRIBUTING.md: minutes that aren't the sums of the gate's table: bench/tables.py --gate LOG writes them"
+    yield from fifth_game.faults()
+
+
+def examples():
+    """The examples of docs/CALLING.md that don't stand in their file."""
+    text = (TOP / "docs" / "CALLING.md").read_text()
+    found = re.findall(r"In \[[^]]*\]\(\.\./([^)]*)\):\n\n```rust\n(.*?)```", text, re.S)
+    if len(found) != text.count("```rust"):
+        yield "docs/CALLING.md: an example without the name of its file above it"
+    yield from (f"docs/CALLING.md: an example that isn't in {place}" for place, code in found
+                if code not in (TOP / place).read_text())
 
 
 def stale(path):
@@ -178,9 +193,12 @@ def stale(path):
 def scripts():
     """What is wrong with the scripts that a document names."""
     text = "".join(path.read_text() for path in documents())
-    names = sorted({name for name in re.findall(r"(?:bench|outside|examples|page)/[\w/]+\.(?:py|sh)", text) if (TOP / name).exists()})
+    named = re.findall(r"(?:bench|outside|examples|page)/[\w/]+\.(?:py|sh)", text)
+    names = [name for name in named if (TOP / name).exists()]
     names += [f"bench/{name}" for name in re.findall(r"^\| `(\w+\.py)", (TOP / "bench" / "README.md").read_text(), re.M)]
     for name in sorted(set(names)):
+        if not (TOP / name).read_bytes().startswith(b"#!"):
+            continue  # a module of a script
         if not os.access(TOP / name, os.X_OK):
             yield f"{name}: can't be run"
             continue
@@ -200,7 +218,7 @@ def all_faults():
     yield from (f"{name}: README.md has {here}, docs/FORMATS.md {there}" for name, here, there in twice() if here != there)
     yield from (f"{name}: README.md has {here}, docs/puzzles.1 {there}" for name, here, there in by_manual() if here != there)
     yield from (fault for name in ("DECISIONS.md", "PROOF.md") for fault in stale(TOP / "docs" / name))
-    yield from (fault for look in (numbers, scripts) for fault in look())
+    yield from (fault for look in (numbers, examples, scripts) for fault in look())
 
 
 def main():

@@ -7,7 +7,8 @@ usage: promises.py [--help]
   It lies in a crate in which a call of its row stands.
 - A promise names at most three, or says in so many words that it is of laws, "with no body", or has "none of its own".
 - Each public call has its row: it is named in a second column. Public calls are the `pub fn`s that a library's lib.rt hands on,
-  by themselves, with their type or with their module; of the program those of PROGRAM in contracts.py.
+  by themselves, with their type or with their module; of the program those of PROGRAM in contracts.py. So are the members of the
+  traits that it hands on: a row names one at the trait, or at a type that has it.
 - Each wrong body has one line `# refused by: FUNCTION.CLAUSE`, and there is such a clause: see the next paragraph.
 - What a second column names in code marks is there in some crate: calls, clauses, types and crates.
 - The column of definitions has words with their files, as "`IsClosing`, `IsDead` in [engine_core/ClosingList]", the groups parted
@@ -30,7 +31,7 @@ import signal
 import sys
 
 sys.dont_write_bytecode = True
-from contracts import (TOP, crates, defined, functions, ghosts, imports, is_private,  # noqa: E402
+from contracts import (TOP, crates, defined, functions, ghosts, imports, is_member, is_private,  # noqa: E402
                        names, public_calls, public_clauses)
 
 MOST_BODIES = 3
@@ -185,10 +186,13 @@ def row_faults(table):
 
 def call_faults(table):
     """The public calls that no second column names."""
-    told = {(call.crate, call.kind, call.name) for row in table if not row.is_part for call, _ in row.calls}
+    named = [call for row in table if not row.is_part for call, _ in row.calls]
+    told = {(call.crate, call.kind, call.name) for call in named}
+    members = {(call.trait, call.name) for call in named}
     for crate in crates():
         yield from (f"{crate.name}: no row for {call.told()}" for call in public_calls(crate)
-                    if (call.crate, call.kind, call.name) not in told)
+                    if ((call.trait, call.name) not in members if is_member(call)
+                        else (call.crate, call.kind, call.name) not in told))
 
 
 def groups(cell):

@@ -10,13 +10,15 @@
 #                 standard output and standard error together
 #   python NAME   a file of that name; and so js NAME
 #   text          what is only read
-# Each document has a temporary folder, a copy of the repository without its `out` folders, and one shell, in which its lines run in order, so that `$?` and variables last.
+# Each document has a temporary folder, a copy of the repository without its `out` folders, and one shell, in which its lines
+# run in order, so that `$?` and variables last.
 # A line of a session that is run neither here nor named below, and a block of any other kind, is a failure.
 set -u
 
 # These lines are NOT run. Those with `rt` take more than a minute, some of them hours: they prove crates, or build the program.
-# The page runs until it is stopped; docs/USE.md has it once more, with its end. The others are of Dask: two run until they are
-# stopped, and the job needs these two. outside/dask_job.py runs that job.
+# The page runs until it is stopped; docs/USE.md has it once more, with its end. The library's need a build: outside/library.py
+# and outside/wasm.py run what they call. The others are of Dask: two run until they are stopped, and the job needs these two.
+# outside/dask_job.py runs that job.
 dask='/usr/bin/python3 examples/dask/job.py --lines 25 tcp://127.0.0.1:8786'
 not_run=(
     '(cd crates/puzzles && rt try -- solve pattern 5x1:1/1//1/1/2.2)'
@@ -28,9 +30,17 @@ not_run=(
     '(cd crates/core_tests && rt test)'
     'rt ci'
     'page/serve.py ~/.local/bin/puzzles'
+    'page/static.py ~/puzzles-page'
+    'python3 -m http.server --bind 127.0.0.1 --directory ~/puzzles-page 8017'
     'sudo apt-get install python3-distributed'
     'dask scheduler --host 127.0.0.1 --port 8786 --no-dashboard'
     'dask worker tcp://127.0.0.1:8786 --nworkers 4 --nthreads 1 --no-dashboard'
+    'library/build.py so'
+    'cc -o solve examples/library/solve.c -I library -L library/out -lpuzzles -Wl,-rpath,"$PWD/library/out"'
+    './solve pattern 5x1:1/1//1/1/2.2'
+    'examples/library/solve.py pattern 5x1:1/1//1/1/2.2'
+    'library/build.py wasm'
+    'node examples/library/solve.mjs pattern 5x1:1/1//1/1/2.2'
     "$dask ids.txt solve pattern --budget 20000 > answers.txt"
     "$dask ids.txt grade pattern -- {} > grades.txt"
     "$dask seeds.txt generate tents 8x8 --seed {} > made.txt"
@@ -125,7 +135,7 @@ run_commands() {
     (
         cd "$1" || exit 1
         export PATH=$folder/bin:$PATH:/usr/games HOME=$1 LC_ALL=C
-        timeout 300 bash --noprofile --norc "$2/session" < /dev/null > /dev/null 2> "$2/errors"
+        timeout 900 bash --noprofile --norc "$2/session" < /dev/null > /dev/null 2> "$2/errors"
     )
 }
 
