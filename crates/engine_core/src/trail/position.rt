@@ -17,6 +17,9 @@ use grid_core::{Board, Fixed, Grid};
 use std::alloc::{AllocError, Global};
 use std::marker::Model;
 
+/// With no more values than this, houses in which a cell gets its last value come first after a trial alone.
+const FEW_VALUES: u8 = 6;
+
 /// Marks the houses that a closing begins with: those that have the place, or where none is named all.
 fn wait_from<S: RuleSet>(rules: &HouseRules<S>, from: Option<usize>, waits: &mut [u64])
     requires place_in { IfSome from (λ place. place
@@ -125,6 +128,9 @@ impl<S: RuleSet> TrailPosition<S> {
         ensures within { result ≤ (S.system (S.puzzle_of rules.now.set)).houses }
     {
         let houses = rules.houses();
+        if !singles_first && rules.values() <= FEW_VALUES {
+            return house + 1;
+        }
         let board = self.trailed.board();
         let first: &mut [u64] = &mut self.first;
         for number in before..self.trailed.len() {
@@ -142,7 +148,7 @@ impl<S: RuleSet> TrailPosition<S> {
 
     /// Closes the board: goes around over the houses that wait and visits each, until none waits or a cell has no value. After
     /// the last house it begins again. At first each house waits that strikes anything; it may be more. Houses in which a cell
-    /// gets its last value can come first, and do so once it has begun again.
+    /// gets its last value can come first. With many values they do so once it has begun again.
     fn run(&mut self, rules: &HouseRules<S>, mut singles_first: bool) -> Taken
         requires along { IsAlong (S.system (S.puzzle_of rules.now.set)) self.old }
         requires alive { IsAlive (S.system (S.puzzle_of rules.now.set)) (board_in self.old) }
@@ -157,7 +163,7 @@ impl<S: RuleSet> TrailPosition<S> {
         let mut turns = 0;
         let mut from = 0;
         while let Some(house) = next_around(&self.waits, from, rules.houses()) {
-            singles_first |= house < from;
+            singles_first |= house < from && rules.values() > FEW_VALUES;
             turns += 1;
             let before = self.trailed.len();
             if self.step(rules, house) {

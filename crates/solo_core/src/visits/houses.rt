@@ -43,7 +43,9 @@ pub(crate) fn keep_houses(values: u8, sets: &[u32], kept: &mut [u32], pairing: &
         return keep_others(values, settled, rest, kept, pairing);
     }
     let lone = peel(values, counts, settled, rest, kept);
-    keep_others(values, lone, rest, kept, pairing);
+    if !are_whole(values, lone, kept) {
+        keep_others(values, lone, rest, kept, pairing);
+    }
     true
 }
 

@@ -32,6 +32,12 @@ pub peel-lone-requires-clause-rest : goal.peel-lone-requires-clause-rest
 peel-lone-requires-clause-rest c =
     rw c.copy_counted-counts.ensures.copied (are_rest (goal.at.peel-lone-requires-clause-rest c).After-deref-rest)
 
-pub returns-clause-decided : goal.returns-clause-decided
-returns-clause-decided c = λ _.
-    decided_by_peeled (rw c.copy_counted-counts.ensures.copied at c.peel-lone.ensures.peeled) c.keep_others-2.ensures.decided
+pub returns-then-not-are_whole-clause-decided : goal.returns-then-not-are_whole-clause-decided
+returns-then-not-are_whole-clause-decided c = λ _.
+    decided_by_peeled (rw c.copy_counted-counts.ensures.copied at c.peel-lone.ensures.peeled) c.keep_others-then-not-are_whole.ensures.decided
+
+pub returns-else-not-are_whole-clause-decided : goal.returns-else-not-are_whole-clause-decided
+returns-else-not-are_whole-clause-decided c = λ _.
+    let peeled = rw c.copy_counted-counts.ensures.copied at c.peel-lone.ensures.peeled in
+    decided_by_peeled peeled
+    (decided_whole (peeled.as_many ∙ c.requires.square) c.peel-lone.ensures.lone (c.are_whole-2.ensures c.if-not-are_whole.false))
