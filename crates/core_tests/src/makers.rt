@@ -65,13 +65,8 @@ fn givens_are_left_for_a_reason(rt: HostRuntime) -> Result<(), Fail> {
 
 /// The IDs of what is made of black cells alone, of Pattern and of Light Up, and how many numbers are left.
 fn all_black(alloc: Global) -> Result<String, Fail> {
-    let (size, limits) = (
-        Size::new(2, 2).unwrap(),
-        Limits {
-            budget: 0,
-            tries: 1,
-        },
-    );
+    let (size, budget, tries) = (Size::new(2, 2).unwrap(), 0, 1);
+    let limits = Limits { budget, tries };
     let made = make_pattern(alloc, size, 100, &mut generator(), limits)?;
     let pattern = write_pattern(alloc, &made.puzzle)?;
     let made = make_lights(alloc, size, 100, &mut generator(), limits)?;
@@ -115,11 +110,8 @@ fn numbers(made: &Made<LightPuzzle>) -> [u32; 3] {
 
 /// The same of a puzzle of 6 by 6 cells.
 fn numbers_of(alloc: Global) -> Result<[u32; 3], MakeFault> {
-    let size = Size::new(6, 6).unwrap();
-    let limits = Limits {
-        budget: 1_000,
-        tries: 1_000,
-    };
+    let (size, budget, tries) = (Size::new(6, 6).unwrap(), 1_000, 1_000);
+    let limits = Limits { budget, tries };
     let made = make_lights(alloc, size, 30, &mut generator(), limits)?;
     Ok(numbers(&made))
 }

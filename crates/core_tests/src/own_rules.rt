@@ -3,55 +3,30 @@
 mod neighbours;
 mod swept;
 
-ghost use Rattle.std.specs.Prelude.{◌≡◌};
-ghost use Rattle.engine_core.specs.RuleSystem.{FitsIn, needs_of};
-
-use crate::small::{Small, plain_trials};
+use crate::small::{Small, Walked, plain_trials};
 use engine_core::{Closing, Searchable, Store, Verdict};
-use grid_core::Grid;
 use neighbours::Neighbours;
 use std::alloc::{AllocError, Global};
 use std::test::Fail;
 use swept::Swept;
 
-/// Values, the given ends, the budget, the verdict, the number of trials and the most that were open at once.
-static RUNS: [(u8, u8, u8, u64, (Verdict, u64, usize)); 8] = [
-    (2, 0, 0, 0, (Verdict::One, 0, 0)),
-    (2, 0, 1, 9, (Verdict::None, 0, 0)),
-    (3, 0, 0, 9, (Verdict::Several, 4, 3)),
-    (3, 0, 0, 4, (Verdict::Several, 4, 3)),
-    (3, 0, 0, 3, (Verdict::GaveUp { found: true }, 3, 3)),
-    (3, 0, 0, 2, (Verdict::GaveUp { found: false }, 2, 2)),
-    (3, 0, 0, 0, (Verdict::GaveUp { found: false }, 0, 0)),
-    (1, 0, 0, 9, (Verdict::None, 0, 0)),
+/// Values, the given ends of five cells, the verdict, the trials, and the most that are open at once.
+static ROWS: [(u8, u8, u8, Walked); 5] = [
+    (2, 0, 0, (Verdict::One, 0, 0)),
+    (2, 0, 1, (Verdict::None, 0, 0)),
+    (3, 0, 0, (Verdict::Several, 4, 3)),
+    (3, 1, 1, (Verdict::Several, 4, 3)),
+    (3, 1, 2, (Verdict::Several, 4, 3)),
 ];
 
-/// Whether a search with the budget gives this verdict after so many trials, with so many open at once. Each closing
-/// of these rules makes one visit or sweep at least.
-fn gives<R: Searchable>(
-    alloc: Global,
-    rules: &R,
-    budget: u64,
-    (verdict, trials, deepest): (Verdict, u64, usize),
-) -> Result<bool, AllocError> {
-    let mut store = Store::new(alloc, rules)?;
-    Ok(
-        store.solve(rules, budget) == verdict
-            && store.trials() == trials
-            && store.deepest() == deepest
-            && store.turns() > u128::from(trials),
-    )
-}
-
-/// The same of a row of five cells, if it can be, closed by a queue and by sweeps.
-fn both_give(
+/// How stores close and search a row of five cells by a queue and by sweeps, with each budget down from one past the trials,
+/// if they do as the plain programs.
+fn both_go(
     alloc: Global,
     (values, first, last): (u8, u8, u8),
-    budget: u64,
-    wanted: (Verdict, u64, usize),
-) -> Result<Option<[bool; 2]>, AllocError> {
+) -> Result<[Option<Walked>; 2], AllocError> {
     if values < 1 || values > 3 || first >= values || last >= values {
-        return Ok(None);
+        return Ok([None, None]);
     }
     let row = Neighbours {
         cells: 5,
@@ -59,42 +34,25 @@ fn both_give(
         first,
         last,
     };
-    let queue = gives(alloc, &row, budget, wanted)?;
-    let sweeps = gives(alloc, &Swept { row }, budget, wanted)?;
-    Ok(Some([queue, sweeps]))
-}
-
-#[test]
-fn own_rules_are_searched(rt: HostRuntime) -> Result<(), Fail> {
-    for &(values, first, last, budget, wanted) in RUNS.iter() {
-        let told = both_give(rt.alloc(), (values, first, last), budget, wanted)?;
-        assert_eq!(rt; told, Some([true, true]), "{values} {last} {budget}");
-    }
-    Ok(())
-}
-
-/// Whether stores of a row of five cells of three values close and search it as the plain programs do, by a queue and by
-/// sweeps, with each budget down from one past the trials.
-fn both_go_as_plain(alloc: Global, first: u8, last: u8) -> Result<bool, AllocError> {
-    if first >= 3 || last >= 3 {
-        return Ok(false);
-    }
-    let row = Neighbours {
-        cells: 5,
-        values: 3,
-        first,
-        last,
-    };
-    let plain = Small::row(5, 3, usize::from(first), usize::from(last));
+    let plain = Small::row(
+        5,
+        usize::from(values),
+        usize::from(first),
+        usize::from(last),
+    );
     let queue = plain_trials(alloc, &row, &plain)?;
-    let sweeps = plain_trials(alloc, &Swept { row }, &plain)?;
-    Ok(queue.is_some() && sweeps.is_some())
+    Ok([queue, plain_trials(alloc, &Swept { row }, &plain)?])
 }
 
 #[test]
 fn own_rules_go_as_plain(rt: HostRuntime) -> Result<(), Fail> {
-    for last in 0..3 {
-        assert!(rt; both_go_as_plain(rt.alloc(), 1, last)?, "{last}");
+    for &(values, first, last, stated) in ROWS.iter() {
+        let told = both_go(rt.alloc(), (values, first, last))?;
+        assert_eq!(rt;
+            told,
+            [Some(stated), Some(stated)],
+            "{values} {first} {last}"
+        );
     }
     Ok(())
 }

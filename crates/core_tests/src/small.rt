@@ -6,8 +6,8 @@ mod houses;
 mod puzzles;
 mod walk;
 
-pub(crate) use beside::plain_trials;
-use beside::{Walked, set_closes, write_numbers};
+pub(crate) use beside::{Walked, plain_trials};
+use beside::{set_closes, write_numbers};
 use engine_core::Verdict;
 use fields_core::{LightRules, TentRules};
 use gameid_core::{Game, PatternPuzzle, read_lights, read_pattern, read_solo, read_tents};

@@ -12,10 +12,8 @@ use std::test::Fail;
 /// search, and a new one lends no grid.
 fn sizes<R: Searchable>(alloc: Global, rules: &R) -> Result<Option<[usize; 5]>, AllocError> {
     let mut store = Store::new(alloc, rules)?;
-    let (sizes, lends) = (
-        store.sizes(),
-        store.first().is_some() || store.second().is_some(),
-    );
+    let sizes = store.sizes();
+    let lends = store.first().is_some() || store.second().is_some();
     store.solve(rules, 2);
     let same = store.sizes() == sizes && !lends;
     let (frames, trail) = (sizes.frames, sizes.trail);
@@ -97,27 +95,26 @@ const WIDE: &str = "6x4:hbdbd,1,0,0,1,1,1,1,1,0,2";
 
 const TALL: &str = "4x6:am_f_,1,1,1,1,0,1,1,0,0,2";
 
+const HALF: &str = "2x2:1_2_3_4_3_4_1_2h";
+
+/// Without one of these givens.
+const LESS: &str = "2x2:1_2_3_4_3a1_2h";
+
+const ONE: Option<Verdict> = Some(Verdict::One);
+
+const SEVERAL: Option<Verdict> = Some(Verdict::Several);
+
 /// Puzzles, and the verdict on the second in a store of the first, if it has room.
 static USED: [(Game, &str, &str, Option<Verdict>); 10] = [
-    (
-        Game::Solo,
-        "2x2:1_2_3_4_3_4_1_2h",
-        "2x2:1_2_3_4_3a1_2h",
-        Some(Verdict::Several),
-    ),
-    (
-        Game::Pattern,
-        "2x2:1/1/1/1",
-        "2x2:2/2/2/2",
-        Some(Verdict::One),
-    ),
+    (Game::Solo, HALF, LESS, SEVERAL),
+    (Game::Pattern, "2x2:1/1/1/1", "2x2:2/2/2/2", ONE),
     (Game::Pattern, "2x2:1/1/1/1", "2x3:////", None),
-    (Game::LightUp, "2x2:2c", "2x2:Bc", Some(Verdict::Several)),
-    (Game::LightUp, WHITE, LONG, Some(Verdict::One)),
-    (Game::LightUp, LONG, LONG, Some(Verdict::One)),
+    (Game::LightUp, "2x2:2c", "2x2:Bc", SEVERAL),
+    (Game::LightUp, WHITE, LONG, ONE),
+    (Game::LightUp, LONG, LONG, ONE),
     (Game::LightUp, LONG, WHITE, None),
-    (Game::Tents, WIDE, TALL, Some(Verdict::One)),
-    (Game::Tents, TALL, WIDE, Some(Verdict::One)),
+    (Game::Tents, WIDE, TALL, ONE),
+    (Game::Tents, TALL, WIDE, ONE),
     (Game::Tents, "5x3:aiaa,1,0,2,0,0,2,0,1", WIDE, None),
 ];
 
