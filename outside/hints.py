@@ -24,7 +24,7 @@ SIZES = {"solo": ["3x3", "3x3x", "3x3", "3x4"], "pattern": ["10x10", "15x15"], "
 KINDS = ["step", "harder", "trial", "guess"]
 REASONER = Path(__file__).with_suffix(".mjs")
 WAIT = 30  # seconds of a run of the program
-WHOLE = 1200  # seconds of all
+WHOLE = 5400  # seconds of all
 
 
 class Fault(Exception):

@@ -27,10 +27,11 @@ import browser  # noqa: E402
 import driver  # noqa: E402
 import faults  # noqa: E402
 import firefox  # noqa: E402
+import pictures  # noqa: E402
 from asked import CHECK, GENERATE, GRADE, HOST, RAW, REFUSED, REFUSED_MORE, SOLO, SOLVE  # noqa: E402
 from server import WAIT, WEB, Server, Tally  # noqa: E402
 
-WHOLE = 2400  # seconds of the whole run
+WHOLE = 5400  # seconds of the whole run
 CLIENTS, CALLS = 8, 1000
 WORKERS = min(4, os.cpu_count())  # of each game
 
@@ -193,7 +194,9 @@ def parts_of(words, server, tally):
              lambda: try_hard(server, tally), lambda: faults.try_faults(program, tally)]
     if words.no_browser:
         return parts
-    parts.append(lambda: browser.try_page(server, tally, words.pictures))
+    parts.append(lambda: browser.try_page(server, tally))
+    if words.pictures:
+        parts.append(lambda: pictures.leave(server, tally, words.pictures))
     if words.module:
         parts.append(lambda: alone.try_page(server, tally, words.module))
     return [*parts, lambda: firefox.try_page(server, tally, words.module)]
@@ -212,7 +215,7 @@ def main():
     parser.add_argument("program", metavar="PROGRAM", help="as `rt run` leaves it: crates/puzzles/out/puzzles")
     parser.add_argument("--module", metavar="FILE", help="puzzles.wasm, for the page without a server")
     parser.add_argument("--no-browser", action="store_true", help="leave the browsers out")
-    parser.add_argument("--pictures", metavar="FOLDER", help="leave a picture of each game there, of a phone and of a desk")
+    parser.add_argument("--pictures", metavar="FOLDER", help="leave pictures there: each game on a desk and a phone, and its looks")
     words = parser.parse_args()
     missing = [] if words.no_browser else driver.missing()
     if missing:

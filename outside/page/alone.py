@@ -37,6 +37,14 @@ class Quiet(http.server.SimpleHTTPRequestHandler):
         pass
 
 
+class Server(http.server.ThreadingHTTPServer):
+    """A browser that goes on before a file is there is no fault."""
+
+    def handle_error(self, request, client_address):
+        if not isinstance(sys.exc_info()[1], OSError):
+            super().handle_error(request, client_address)
+
+
 class Served:
     """The folder of page/static.py, written anew, on a free port."""
 
@@ -44,7 +52,7 @@ class Served:
         self.kept = tempfile.TemporaryDirectory()
         self.folder = Path(self.kept.name) / "page"
         written(self.folder, module)
-        self.server = http.server.ThreadingHTTPServer(("127.0.0.1", 0), functools.partial(Quiet, directory=str(self.folder)))
+        self.server = Server(("127.0.0.1", 0), functools.partial(Quiet, directory=str(self.folder)))
         self.url = f"http://127.0.0.1:{self.server.server_port}/"
         threading.Thread(target=self.server.serve_forever, daemon=True).start()
 
@@ -119,9 +127,12 @@ def offline(page, server, tally):
     page.open()
     network(page, False)
     for game, size, seed, black in browser.GAMES:
-        page.open(game, browser.made(server, game, size, seed, black)["id"], is_fresh=False)
+        made = browser.made(server, game, size, seed, black)
+        page.open(game, made["id"], is_fresh=False)
         tally.same(f"solve of {game} without a network", page.answer("#solve"), "The only solution is below.")
-        tally.true(f"hint in {game} without a network", page.hint()[1])
+        tally.true(f"hint in {game} without a network", "Proved by the program" in page.hint()[1])
+        browser.write(page, game, browser.signs_of(game, made["grids"][0]), len(made["grids"][0]))
+        page.until_said("Correct. The puzzle is solved.")
     before = page.one("#id").get_property("value")
     page.click("#fresh")
     page.until("makes one without a network", lambda: page.one("#id").get_property("value") != before)
@@ -139,17 +150,17 @@ def renewed(page, served, tally, module):
         for name in ("service.js", "languages/en.js"):  # first the one file, then the other
             shutil.copyfile(fresh / name, served.folder / name)
             tally.same(f"with a new {name} at first", seen(page, 1), {OLD})
-        # one visit finds the new version, and a later one begins it
-        tally.true("then", any(NEW in seen(page, 1) for _ in range(VISITS)))
+        # one visit finds the new version, if it is long enough for the browser, and a later one begins it
+        tally.true("then", any(NEW in seen(page, 1, 1.5 + number / 2) for number in range(VISITS)))
         tally.same("from then on", seen(page, 1), {NEW})
 
 
-def seen(page, visits):
-    """What the button says over some visits."""
+def seen(page, visits, seconds=1.5):
+    """What the button says over some visits of so many seconds."""
     found = set()
     for _ in range(visits):
         page.open(is_fresh=False)
-        time.sleep(1.5)
+        time.sleep(seconds)
         page.until("is there", page.is_ready)
         found.add(page.text("#today"))
     return found

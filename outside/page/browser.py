@@ -1,7 +1,6 @@
 """Each game as a person plays it in a browser, and texts of any kind in any field. For `outside/page.py`."""
 import contextlib
 import tempfile
-from pathlib import Path
 
 import comfort
 import kept
@@ -10,8 +9,7 @@ import player
 import speed
 from driver import By, Keys, Page, WebDriverException
 
-WIDTHS = [(390, 844), (1280, 800)]
-PICTURES = [(390, 664), (1280, 800)]
+DESK = (1280, 800)
 GAMES = [  # game, size, seed, black cells as the page asks for
     ("solo", "3x3", "7", None), ("pattern", "10x10", "3", None), ("lightup", "7x7", "5", "20"), ("tents", "8x8", "2", None)]
 GRADES = {"singles": ["Easy"], "houses": ["Medium"], "crossings": ["Medium"], "lines": ["Easy"], "local": ["Easy"]}
@@ -24,14 +22,12 @@ HOSTILE = ["--budget=5", "--", "<img src=x onerror=document.title='hurt'>", "';\
            "3x3#1", " ", "2x2:\r\n\0"]
 
 
-def try_page(server, tally, pictures):
+def try_page(server, tally):
     """The page over its server, in Chromium."""
     parts = [try_games, kept.try_kept, player.try_player, comfort.try_comfort, looks.try_looks, speed.try_speed]
     with opened(server.url, tally) as page:
         for part in parts:
             part(page, server, tally)
-        if pictures:
-            leave(page, server, Path(pictures))
 
 
 @contextlib.contextmanager
@@ -40,7 +36,7 @@ def opened(url, tally):
     with tempfile.TemporaryDirectory(ignore_cleanup_errors=True) as profile:
         page = Page(url, profile)
         try:
-            page.size(*WIDTHS[1])
+            page.size(*DESK)
             yield page
             said = [line["message"] for line in page.driver.get_log("browser")]
             tally.same(f"what the browser complains of at {url}", [line for line in said if "Failed to load" not in line], [])
@@ -62,7 +58,12 @@ def try_games(page, server, tally):
 
 def made(server, game, size, seed, black):
     """The puzzle of a seed, as the server makes it."""
-    return server.ask("generate", {"game": game, "size": size, "seed": seed, **({"black": black} if black else {})})[2]
+    return server.made(game, size, seed, **({"black": black} if black else {}))
+
+
+def signs_of(game, grid):
+    """The sign of each cell of a printed grid."""
+    return [sign for row in grid for sign in (row.split() if game == "solo" else row)]
 
 
 def play(page, server, tally, game, size, seed, black):
@@ -75,7 +76,7 @@ def play(page, server, tally, game, size, seed, black):
     tally.same(f"{game}: size and difficulty", chosen, [size, "easy"])
     tally.true(f"{game}: what easy needs", page.text("#wanted").startswith("Each step"))
     make(page, game, size, seed, "", puzzle["id"])
-    signs = [sign for row in puzzle["grids"][0] for sign in (row.split() if game == "solo" else row)]
+    signs = signs_of(game, puzzle["grids"][0])
     asked = write(page, game, signs, len(puzzle["grids"][0]))
     page.until_said("Correct. The puzzle is solved.")  # without being asked
     tally.same(f"{game}: check of the solution", page.answer("#check"), "Correct. The puzzle is solved.")
@@ -132,6 +133,7 @@ def spoil(page, game, signs, places):
     page.cells()[places[0]].click()
     if game == "solo":
         page.click(f"#pad button:nth-child({int(signs[places[0]]) % 9 + 1})")
+        page.until_said("Each cell is filled, but something is wrong.")  # without being asked
     else:
         page.cells()[places[0]].send_keys(Keys.DELETE, "x")
 
@@ -196,20 +198,3 @@ def hostile(page, tally):
                 tally.same(f"{text[:30]} in {field}: new elements", page.driver.execute_script(parts) - before in range(4), True)
             seen = len(page.all("img")), page.driver.title.endswith("– puzzles")
             tally.same(f"{text[:30]} in {field}: images, title", seen, (0, True))
-
-
-def leave(page, server, folder):
-    """A picture of each game, half filled and with a hint, at both widths."""
-    folder.mkdir(parents=True, exist_ok=True)
-    for game, size, seed, black in GAMES:
-        asked = {"game": game, "size": size, "seed": seed, "budget": "0", **({"black": black} if black else {})}
-        _, _, made = server.ask("generate", asked)
-        signs = [sign for row in made["grids"][0] for sign in (row.split() if game == "solo" else row)]
-        for width, height in PICTURES:
-            page.size(width, height)
-            page.open(game, made["id"])
-            half = len(signs) // 2 // len(made["grids"][0]) * len(made["grids"][0])
-            write(page, game, signs[:half] + ["."] * (len(signs) - half), len(made["grids"][0]))
-            page.hint()
-            page.script("scrollTo(0, 0)")
-            page.driver.save_screenshot(str(folder / f"{game}-{width}.png"))

@@ -11,7 +11,7 @@ TOUCHING = "4x4:_h_e,1,1,1,1,1,1,1,1"
 
 
 def try_comfort(page, server, tally):
-    for part in (broken_rules, marks, tidy_notes, several_cells, number_first, dots, clue_numbers, begun, tabs, opened, settings,
+    for part in (broken_rules, marks, tidy_notes, corner_notes, several_cells, number_first, dots, clue_numbers, begun, tabs, opened, settings,
                  languages, today, solved, pictures, sharing):
         part(page, server, tally)
 
@@ -93,6 +93,36 @@ def tidy_notes(page, _, tally):
     tally.same("a note over a number", page.signs()[0], "2")
     page.click("#undo")
     tally.same("in one step", page.signs(), ["notes 1 2 3 4"] * 16)
+
+
+def corner_notes(page, _, tally):
+    """Notes in the corners stand beside those in the middle, and go as they do."""
+    page.open("solo", "2x2:p")
+    page.cells()[0].click()
+    page.click("#corners")
+    page.keys("134")
+    page.click("#corners")
+    page.keys("24", held=[Keys.SHIFT])
+    both = "notes 2 4, in the corners 1 3 4"
+    tally.same("notes of both kinds", page.signs()[0], both)
+    stand = """const cell = document.querySelector('#stage .cell'), size = (part) => getComputedStyle(cell, part).fontSize;
+        return [cell.dataset.top, cell.dataset.low, size('::before') === size('::after')];"""
+    tally.same("where they stand", page.script(stand), ["1 3", "4", True])
+    page.driver.refresh()
+    page.until("reloads notes of both kinds", page.is_ready)
+    tally.same("kept notes of both kinds", page.signs()[0], both)
+    page.cells()[5].click()
+    page.keys("3")
+    tally.same("a note in the corners that goes", page.signs()[0], "notes 2 4, in the corners 1 4")
+    page.click("#undo")
+    page.cells()[0].click()
+    page.keys("k3")
+    tally.same("by the key", page.signs()[0], "notes 2 4, in the corners 1 4")
+    page.keys("k4")
+    tally.same("a number over both", page.signs()[0], "4")
+    page.click("#undo")
+    page.click("#erase")
+    tally.same("both erased", page.signs()[0], "blank")
 
 
 def several_cells(page, _, tally):

@@ -50,6 +50,14 @@ def running(word):
     return found
 
 
+def left(word):
+    """The processes that still have a word in their command line after a while: a busy machine ends them late."""
+    end = time.monotonic() + WAIT
+    while (found := running(word)) and time.monotonic() < end:
+        time.sleep(0.1)
+    return found
+
+
 def try_faults(program, tally):
     with tempfile.TemporaryDirectory() as folder:
         linked(folder, tally, program)
@@ -101,7 +109,7 @@ def broken(folder, tally, body, wanted):
         tally.true(f"end over `{body}` at once", time.monotonic() - begun < ENDED)
         for reply in asked:
             reply.exception()  # waits; some got no reply
-    tally.same(f"what `{body}` leaves", running(f"{folder}/puzzles"), [])
+    tally.same(f"what `{body}` leaves", left(f"{folder}/puzzles"), [])
 
 
 def turns(folder, tally):
@@ -142,11 +150,11 @@ def wrapped(folder, tally, program):
     server = Server(script(folder, f"ulimit -v 2000000\n{program} \"$@\"\nexit $?"))
     for _ in range(2):
         tally.same("generate of Solo 5x5 over a wrapper", server.ask("generate", FIFTH)[::2], (503, {"failed": "clock"}))
-    tally.same("what the wrapper began", running(FIFTH["seed"]), [])
+    tally.same("what the wrapper began", left(FIFTH["seed"]), [])
     server.stop()
     server = Server(program)
     tally.same("generate of Solo 5x5", server.ask("generate", FIFTH)[::2], (503, {"failed": "clock"}))
-    tally.same("what it began", running(FIFTH["seed"]), [])
+    tally.same("what it began", left(FIFTH["seed"]), [])
     status, _, told = server.ask("generate", {**FIFTH, "budget": "0"})
     tally.same("generate of Solo 5x5 without guesses", (status, told.get("verdict")), (200, "made"))
     server.stop()

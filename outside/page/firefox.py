@@ -13,6 +13,7 @@ import alone
 import browser
 
 WAIT = 60  # seconds of any wait
+START = 240  # seconds in which it has begun
 PREFS = {"marionette.port": 0, "browser.shell.checkDefaultBrowser": False, "datareporting.policy.dataSubmissionEnabled": False,
          "app.update.disabledForTesting": True, "toolkit.telemetry.reportingpolicy.firstRun": False}
 
@@ -27,17 +28,21 @@ class Firefox:
         words = [shutil.which("firefox-esr") or "firefox", "--headless", "--no-remote", "--marionette", "--profile", profile]
         self.child = subprocess.Popen(words, stdin=subprocess.DEVNULL, stdout=subprocess.DEVNULL, stderr=subprocess.DEVNULL,
                                       env={**os.environ, "HOME": profile, "MOZ_HEADLESS": "1"}, start_new_session=True)
-        self.link = self.connected(Path(profile, "MarionetteActivePort"))
+        self.link, self.told = None, Path(profile, "MarionetteActivePort")
+
+    def begin(self):
+        self.link = self.connected()
         self.read()
         self.send("WebDriver:NewSession", {})
         self.send("WebDriver:SetTimeouts", {"script": WAIT * 1000, "pageLoad": WAIT * 1000, "implicit": 0})
+        self.link.settimeout(2 * WAIT)
 
-    def connected(self, told):
+    def connected(self):
         """A connection to the port that the browser has chosen."""
-        end = time.monotonic() + WAIT
+        end = time.monotonic() + START
         while time.monotonic() < end:
-            if told.is_file() and (port := told.read_text().strip()):
-                return socket.create_connection(("127.0.0.1", int(port)), WAIT)
+            if self.told.is_file() and (port := self.told.read_text().strip()):
+                return socket.create_connection(("127.0.0.1", int(port)), START)
             time.sleep(0.1)
         raise TimeoutError("Firefox doesn't begin")
 
@@ -96,12 +101,14 @@ class Firefox:
         return self.until(f"answers {selector}", "document.getElementById('answer').innerText")
 
     def stop(self):
-        self.link.close()
+        if self.link:
+            self.link.close()
         self.child.terminate()
         try:
             self.child.wait(WAIT)
         except subprocess.TimeoutExpired:
             self.child.kill()
+            self.child.wait(WAIT)
 
 
 def try_page(server, tally, module):
@@ -111,9 +118,10 @@ def try_page(server, tally, module):
         with tempfile.TemporaryDirectory(ignore_cleanup_errors=True) as profile:
             page = Firefox(url, profile)
             try:
+                page.begin()
                 for game, size, seed, black in browser.GAMES:
                     play(page, tally, game, browser.made(server, game, size, seed, black))
-            except (RuntimeError, TimeoutError) as fault:
+            except (RuntimeError, OSError, ValueError) as fault:
                 tally.same(f"Firefox at {url}", str(fault), "no fault")
             finally:
                 page.stop()
@@ -126,7 +134,7 @@ def play(page, tally, game, made):
     first = page.answer("#hint")
     tally.true(f"Firefox, {game}: where to look: {first}", first.startswith("Look"))
     tally.true(f"Firefox, {game}: a hint", "Proved by the program" in page.answer("#hint"))
-    signs = [sign for row in made["grids"][0] for sign in (row.split() if game == "solo" else row)]
+    signs = browser.signs_of(game, made["grids"][0])
     empty = page.script("return [...document.querySelectorAll('#stage .cell')].map((cell) => cell.dataset.sign === '.')")
     for place, sign in enumerate(signs):
         if empty[place] and (game == "solo" or sign in "#O^"):

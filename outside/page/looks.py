@@ -42,9 +42,7 @@ def try_looks(page, server, tally):
 
 
 def made_by(server, game, size, black):
-    more = {"black": black} if game == "lightup" else {}
-    _, _, told = server.ask("generate", {"game": game, "size": size, "seed": "4", **more})
-    return told["id"]
+    return server.made(game, size, "4", **({"black": black} if game == "lightup" else {}))["id"]
 
 
 def media(page, kind="", **features):
@@ -73,7 +71,7 @@ def phone(page, server, tally, made):
         board, words = (edges(page, name) for name in ("#stage", "#answer"))
         tally.true(f"words and board of {game} on one screen: {board}, {words}",
                    board[0] >= 0 and words[1] <= PHONE[1] and words[0] >= board[1] - 1)
-        tally.true(f"Hint of {game} on the first screen", edges(page, "#hint")[1] <= PHONE[1])
+        tally.true(f"Hint of {game} beside its words", edges(page, "#hint")[1] <= words[0])
     page.open("solo", "2x2:5o")
     in_sight = edges(page, "#answer")[1] <= PHONE[1]
     tally.true("why a link is refused is in sight", "This ID is refused" in page.text("#answer") and in_sight)

@@ -5,11 +5,13 @@ import json
 import socket
 import subprocess
 import sys
+import time
 from pathlib import Path
 
 PAGE = Path(__file__).resolve().parent.parent.parent / "page"
 WEB = PAGE / "web"
 WAIT = 30  # seconds of any wait for the server
+TRIED = 300  # seconds in which a puzzle has to be made
 
 
 class Tally:
@@ -67,6 +69,14 @@ class Server:
             link.request("POST", f"/{call}", json.dumps(told), headers)
             reply = link.getresponse()
             return reply.status, reply.headers, json.loads(reply.read())
+
+    def made(self, game, size, seed, **more):
+        """The puzzle of a seed. A busy machine may need several tries, for each has its two seconds."""
+        end, asked = time.monotonic() + TRIED, {"game": game, "size": size, "seed": seed, **more}
+        while True:
+            _, _, told = self.ask("generate", asked)
+            if "id" in told or time.monotonic() > end:
+                return told
 
     def send(self, sent, closing):
         """All that comes back for these bytes."""

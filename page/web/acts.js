@@ -8,8 +8,8 @@ import { point, say, table } from "./table.js";
 const places = () => (table.chosen.size ? [...table.chosen] : [table.at]);
 const placesOf = (step) => step.map(([key]) => key).filter((key) => typeof key === "number");
 // An extra of a cell, or of a clue, leaves no cell to look at but its own.
-const touched = (step) => [...new Set([...placesOf(step), ...step.flatMap(([key]) => colouredBy(key))])];
-const colouredBy = (key) => (typeof key === "number" || !key.startsWith("colour") ? [] : [Number(key.split(" ")[1])]);
+const touched = (step) => [...new Set([...placesOf(step), ...step.flatMap(([key]) => besideOf(key))])];
+const besideOf = (key) => (/^(colour|corner) /.test(key) ? [Number(key.split(" ")[1])] : []);
 
 function stepped(step) {
   if (!step) return;
@@ -51,35 +51,42 @@ export function mark() {
   say(words.said.marked);
 }
 
-const numbersIn = (sign) => new Set(sign[0] === "'" ? sign.slice(1).split(" ") : []);
-const noted = (numbers) => (numbers.size ? `'${[...numbers].sort((a, b) => a - b).join(" ")}` : ".");
+// The notes of a cell of one kind, and the change that makes others of them. Those in the middle of a cell are its sign.
+const listed = (numbers) => [...numbers].sort((a, b) => a - b).join(" ");
+const noted = (numbers) => (numbers.size ? `'${listed(numbers)}` : ".");
+const NOTES = {
+  notes: { of: (place) => (table.play.state[place].match(/^'(.*)/)?.[1] || ""), to: (place, numbers) => [place, noted(numbers)] },
+  corners: { of: (place) => table.play.of(`corner ${place}`), to: (place, numbers) => [`corner ${place}`, listed(numbers)] },
+};
+const numbersIn = (kind, place) => new Set(NOTES[kind].of(place).split(" ").filter(Boolean));
 
 // A number that is put down takes its notes from its row, column and block along.
 function tidied(place, number) {
-  const { play: { state }, board: { standing } } = table;
-  const near = standing.housesOf[place].flatMap((house) => standing.houses[house]);
-  return [...new Set(near)].filter((cell) => cell !== place && numbersIn(state[cell]).has(number)).map((cell) => {
-    const numbers = numbersIn(state[cell]);
+  const { standing } = table.board, near = new Set(standing.housesOf[place].flatMap((house) => standing.houses[house]));
+  near.delete(place);
+  return Object.keys(NOTES).flatMap((kind) => [...near].filter((cell) => numbersIn(kind, cell).has(number)).map((cell) => {
+    const numbers = numbersIn(kind, cell);
     numbers.delete(number);
-    return [cell, noted(numbers)];
-  });
+    return NOTES[kind].to(cell, numbers);
+  }));
 }
 
 export function put(sign) {
   const isTidy = settings.tidy && table.play.puzzle.block && isNumber(sign), own = places();
   const others = isTidy ? own.flatMap((place) => (table.play.puzzle.fixed[place] ? [] : tidied(place, sign))) : [];
-  change([...others.filter(([place]) => !own.includes(place)), ...own.map((place) => [place, sign])]);
+  const corners = own.map((place) => [`corner ${place}`, ""]);
+  change([...others.filter(([place]) => !own.includes(place)), ...own.map((place) => [place, sign]), ...corners]);
 }
 
 // A note of a number, or its end. Where a number stands there is no room for one.
-export function note(number) {
+export function note(number, kind) {
   const { state } = table.play, open = places().filter((place) => !isFilled(state[place]));
-  const isThere = open.every((place) => numbersIn(state[place]).has(number));
+  const isThere = open.every((place) => numbersIn(kind, place).has(number));
   change(open.map((place) => {
-    const numbers = numbersIn(state[place]);
+    const numbers = numbersIn(kind, place);
     if (isThere) numbers.delete(number);
     else numbers.add(number);
-    return [place, noted(numbers)];
+    return NOTES[kind].to(place, numbers);
   }));
 }
 
@@ -101,12 +108,12 @@ export function colour(number) {
 // A number in the mode that is on.
 export function enter(number, mode = table.mode) {
   if (mode === "colours") colour(number);
-  else if (mode === "notes") note(number);
+  else if (mode) note(number, mode);
   else put(number);
 }
 
 export function erase() {
-  change([...places().map((place) => [place, "."]), ...places().map((place) => [`colour ${place}`, ""])]);
+  change(places().flatMap((place) => [[place, "."], [`colour ${place}`, ""], [`corner ${place}`, ""]]));
 }
 
 // A number of a clue is crossed off by hand, or isn't any more.

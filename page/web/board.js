@@ -10,9 +10,10 @@ export function element(name, attributes, ...inside) {
   return made;
 }
 
-// The notes of a cell of Solo, each at its own place; if numbers have two digits there is no room for that.
-function noteText(p, notes) {
-  if (p.w > 9) return notes.join(" ");
+// The notes of a cell of Solo, each at its own place. If numbers have two digits, or if there are notes in the corners too, there
+// is no room for that.
+function noteText(p, notes, corners) {
+  if (p.w > 9 || corners) return notes.join(p.w > 9 ? " " : "");
   const { w, h } = p.block, number = (k) => (notes.includes(String(k)) ? k : "\u2007");
   return range(h, (y) => range(w, (x) => number(y * w + x + 1)).join(" ")).join("\n");
 }
@@ -27,14 +28,16 @@ export class Board {
     this.standing = new Standing(p);
     this.columns = this.clues(p.columns, "columnheader", "column");
     this.rows = this.clues(p.rows, "rowheader", "row");
-    const lines = rowsOf(p).map((line, y) =>
-      row(words.line("row", y + 1), this.rows.slice(y, y + 1), line.map((place) => this.cell(place))));
+    const run = (line) => element("div", { role: "presentation", class: "run" }, ...line.map((place) => this.cell(place)));
+    const lines = rowsOf(p).map((line, y) => row(words.line("row", y + 1), this.rows.slice(y, y + 1), [run(line)]));
     const corner = element("div", { role: "presentation", class: "corner" });
     const heads = this.columns.length ? [row(words.columns, [corner], this.columns)] : [];
     const named = { role: "grid", class: `board ${p.game}`, "aria-label": name, lang: language };
-    this.grid = element("div", named, ...beside(heads, lines));
+    this.grid = element("div", named, ...beside(heads, lines), element("div", { role: "presentation", class: "frame" }));
     const room = (lists) => (lists.length ? 0.4 + 0.6 * Math.max(...lists.map((list) => list.length)) : 0); // in cells
-    this.grid.style = `--columns: ${p.w + Number(isTents)}; --wide: ${p.w + room(p.rows)}; --tall: ${p.h + room(p.columns)}`;
+    this.grid.style = `--cells: ${p.w}; --columns: ${p.w + Number(isTents)}; --wide: ${p.w + room(p.rows)};
+      --tall: ${p.h + room(p.columns)}`;
+    if (p.block && p.w > 9) this.grid.style.setProperty("--sign", .52); // for two digits
     if (p.w > 40 || p.h > 40) this.grid.classList.add("large");
   }
 
@@ -67,7 +70,9 @@ export class Board {
     const points = new Set([marked, house, shown, near, same, chosen].flatMap((some) => [...(some?.keys() || [])]));
     const touched = new Set([...this.standing.update(state, changed), ...this.pointed, ...points]);
     this.pointed = points;
-    for (const place of touched) this.paintCell(place, state[place], extras[`colour ${place}`] || "", pointed);
+    for (const place of touched) {
+      this.paintCell(place, state[place], extras[`colour ${place}`] || "", extras[`corner ${place}`] || "", pointed);
+    }
     for (const k of this.linesOf(changed)) this.paintClue(k, extras, isChecked);
   }
 
@@ -78,31 +83,32 @@ export class Board {
     return new Set(places.flatMap((place) => [place % w, w + Math.floor(place / w)]));
   }
 
-  paintCell(place, sign, colour, { marked, house, shown, near, same, chosen, isChecked }) {
+  paintCell(place, sign, colour, corners, { marked, house, shown, near, same, chosen, isChecked }) {
     const p = this.puzzle, x = place % p.w, y = Math.floor(place / p.w), { standing } = this;
     const is = { crossed: p.crossed && (x === y || x === p.w - 1 - y), fixed: p.fixed[place] !== "", note: sign[0] === "'",
       lit: standing.isLit(place), met: standing.isMet(place), broken: isChecked && standing.isBroken(place),
       near: near?.has(place), same: same?.has(place), house: house?.has(place), marked: marked?.has(place),
       chosen: chosen?.has(place) };
     const names = Object.keys(is).filter((name) => is[name]).join(" "), why = marked?.get(place), told = shown?.get(place) || "";
-    const look = `${sign} ${names} ${why} ${told} ${colour}`;
+    const look = `${sign} ${names} ${why} ${told} ${colour} ${corners}`;
     if (look === this.shown[place]) return;
     this.shown[place] = look;
     const cell = this.cells[place], notes = is.note ? sign.slice(1).split(" ") : [];
     cell.className = `cell ${names}`;
     Object.assign(cell.dataset, { sign: is.note ? "." : sign, shown: told, colour });
-    const text = is.note ? noteText(p, notes) : /\d/.test(sign) ? sign : "";
+    const text = is.note ? noteText(p, notes, corners) : /\d/.test(sign) ? sign : "";
     if (cell.textContent !== text) cell.textContent = text;
-    cell.ariaLabel = this.name(place, this.content(sign, notes, is, colour, why, told));
+    if (p.block) paintCorners(cell, told || text === sign ? [] : corners.split(" ").filter(Boolean));
+    cell.ariaLabel = this.name(place, this.content(sign, notes, is, colour, corners, why, told));
   }
 
   // What a screen reader says of a cell: first what stands there, then where it is.
-  content(sign, notes, is, colour, why, told) {
+  content(sign, notes, is, colour, corners, why, told) {
     const { signs, states } = words, black = this.puzzle.game === "lightup" && isNumber(sign);
     const what = is.note ? `${words.notes} ${notes.join(" ")}` : signs[sign] || (black ? `${signs["#"]} ${sign}` : sign);
     const more = [is.fixed && this.puzzle.block && states.given, is.met && states.met, is.lit && states.lit,
-      is.broken && states.broken, colour && `${words.page.colour} ${colour}`, why && states[why],
-      told && words.shown(signs[told] || told)];
+      is.broken && states.broken, corners && `${words.corners} ${corners}`, colour && `${words.page.colour} ${colour}`,
+      why && states[why], told && words.shown(signs[told] || told)];
     return [what, ...more.filter(Boolean)].join(", ");
   }
 
@@ -127,6 +133,15 @@ export class Board {
     this.lit?.forEach((head) => head.classList.remove("at"));
     heads.forEach((head) => head.classList.add("at"));
     this.lit = heads;
+  }
+}
+
+// Notes in the corners of a cell: the first two at the top, the next two below, and more between them.
+function paintCorners(cell, numbers) {
+  const half = Math.max(2, Math.ceil(numbers.length / 2)), lines = { top: numbers.slice(0, half), low: numbers.slice(half) };
+  for (const [name, line] of Object.entries(lines)) {
+    if (numbers.length) cell.dataset[name] = line.join(" ");
+    else delete cell.dataset[name];
   }
 }
 

@@ -5,7 +5,7 @@
 // A tap is a click.
 import { settings } from "./settings.js";
 import { change, cross, enter, hold, turn } from "./acts.js";
-import { $, choose, chooseMore, setMode, table } from "./table.js";
+import { $, MODES, choose, chooseMore, setMode, table } from "./table.js";
 
 const HOLD = 250; // milliseconds
 const STILL = 8; // pixels that a finger may move while it holds
@@ -134,5 +134,5 @@ export function listen() {
   $("pad").addEventListener("click", pad);
   $("pad").addEventListener("pointerdown", padDown);
   $("pad").addEventListener("contextmenu", (event) => event.preventDefault());
-  for (const mode of ["notes", "colours"]) $(mode).addEventListener("click", () => setMode(table.mode === mode ? "" : mode));
+  for (const mode of MODES) $(mode).addEventListener("click", () => setMode(table.mode === mode ? "" : mode));
 }

@@ -47,7 +47,9 @@ export function kept(name, puzzle) {
   const fits = (sign, place) => (puzzle.fixed[place] ? sign === puzzle.fixed[place] : mayStand(sign));
   if (!found || found.signs.length !== puzzle.fixed.length || !found.signs.every(fits)) return undefined;
   const isPlace = (key) => Number.isInteger(key) && puzzle.fixed[key] === "";
-  const isExtra = (key, value) => /^(colour|row|column) [\d.]+$/.test(key) && /^[1-6x]?$/.test(value);
+  const isCorner = (key, value) => /^corner \d+$/.test(key) && (!value || value.split(" ").every(isNumber));
+  const isExtra = (key, value) =>
+    isCorner(key, value) || (/^(colour|row|column) [\d.]+$/.test(key) && /^[1-6x]?$/.test(value));
   const isChange = ([key, ...both]) => (isPlace(key) ? both.every(mayStand) : both.every((value) => isExtra(key, value)));
   const steps = (all) => attempt(() => (all.flat().every(isChange) ? all : [])) || [];
   const extras = Object.entries(found.extras || {}).filter(([key, value]) => isExtra(key, value));

@@ -1,9 +1,9 @@
 // Keys on the board.
 import { change, enter, erase, redo, turn, undo } from "./acts.js";
-import { $, choose, chooseMore, setMode, table } from "./table.js";
+import { $, choose, chooseMore, table } from "./table.js";
 
 const SOON = 1000; // milliseconds between two digits of one number
-const BUTTONS = { h: "hint", c: "check" };
+const BUTTONS = { h: "hint", c: "check" }, OF_SOLO = { n: "notes", k: "corners" };
 
 let typed = { text: "" };
 
@@ -19,7 +19,8 @@ function numberOf(event) {
 }
 
 function type(number, { mode, isLonger }) {
-  if (mode === "notes" && isLonger) enter(number.slice(0, -1), mode); // the first digit was taken for a note of its own
+  const isNote = ["notes", "corners"].includes(mode);
+  if (isNote && isLonger) enter(number.slice(0, -1), mode); // the first digit was taken for a note of its own
   enter(number, mode);
 }
 
@@ -47,8 +48,8 @@ function actOf(event) {
   if (["Delete", "Backspace", "0"].includes(pressed)) return erase;
   if (number) return () => type(number, typed);
   if (!block && [" ", "Enter", "x"].includes(letter)) return () => event.repeat || turn(letter === "x");
-  if (block && letter === "n") return () => setMode(table.mode === "notes" ? "" : "notes");
-  return BUTTONS[letter] && (() => event.repeat || $(BUTTONS[letter]).click());
+  const button = BUTTONS[letter] || (block && OF_SOLO[letter]);
+  return button && (() => event.repeat || $(button).click());
 }
 
 function key(event) {

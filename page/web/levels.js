@@ -1,5 +1,6 @@
 // Levels of difficulty: what puzzles of each need, and puzzles that need it. The grade is the program's. What one with the grade
 // `search n` needs is told by the reasoner: whether its steps lead to the end, and how many cells have to be tried out.
+import { LEVEL_OF } from "./grades.js";
 import { range, read, scan, written } from "./puzzle.js";
 
 export const LEVELS = ["easy", "medium", "hard"];
@@ -8,10 +9,8 @@ const SECONDS = 3, LAST_SEED = (1n << 64n) - 1n, MAKING_BUDGET = "1000";
 
 // How hard a puzzle is for a player, by its grade and what it needs beyond.
 export function levelOf(game, grade, needs) {
-  if (["singles", "lines", "local"].includes(grade)) return "easy";
-  if (["houses", "crossings"].includes(grade)) return "medium";
-  const tried = (needs?.trial || 0) + (needs?.guess ? Infinity : 0);
-  return needs && game !== "solo" && tried <= FEW[game] ? "medium" : "hard";
+  const level = LEVEL_OF[grade?.split(" ")[0]] || "hard", tried = (needs?.trial || 0) + (needs?.guess ? Infinity : 0);
+  return level === "hard" && needs && game !== "solo" && tried <= FEW[game] ? "medium" : level;
 }
 
 const isHarder = (grade, level) => !grade || LEVELS.indexOf(levelOf("solo", grade)) > LEVELS.indexOf(level);

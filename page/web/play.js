@@ -1,7 +1,8 @@
 // A puzzle as it is played: what stands in its cells, each step with its way back, and what is kept of it.
 //
 // A step is a list of changes, each with a key, what was there before, and what is there after. A number is a place, whose sign
-// changes. "colour 12" is the colour of a cell, and "row 3.1" the second number of a row's clue, crossed off by hand.
+// changes. "colour 12" is the colour of a cell, "corner 12" the notes in its corners, and "row 3.1" the second number of a row's
+// clue, crossed off by hand.
 import { keep, kept, look } from "./kept.js";
 import { start } from "./puzzle.js";
 

@@ -6,10 +6,11 @@ import { isNumber, range } from "./puzzle.js";
 import { settings } from "./settings.js";
 
 const COLOURS = 6;
+export const MODES = ["notes", "corners", "colours"]; // what a number is, if it isn't one for the cell
 export const $ = (id) => document.getElementById(id);
 
-// `at` is the chosen cell, and `chosen` all that are, if they are several. `mode` is what a number is: "notes", "colours", or
-// nothing for a number. `number` is one that was chosen first, and goes into each cell that is clicked.
+// `at` is the chosen cell, and `chosen` all that are, if they are several. `mode` is one of MODES, or nothing. `number` is one
+// that was chosen first, and goes into each cell that is clicked.
 export const table = { play: undefined, board: undefined, at: 0, chosen: new Set(), mode: "", number: "", marks: {},
   changed: () => {} };
 
@@ -27,7 +28,7 @@ export function lay(puzzle, id) {
   $("rule").textContent = words.rule(puzzle);
   $("stage").replaceChildren(table.board.grid);
   $("keys").textContent = words.keys(puzzle, matchMedia("(pointer: coarse)").matches);
-  for (const name of ["notes", "colours", "allNotes"]) $(name).hidden = !block;
+  for (const name of [...MODES, "allNotes"]) $(name).hidden = !block;
   $("solutions").replaceChildren();
   setMode("");
 }
@@ -42,7 +43,7 @@ function layPad() {
 
 export function setMode(mode) {
   table.mode = mode;
-  for (const name of ["notes", "colours"]) $(name).ariaPressed = String(mode === name);
+  for (const name of MODES) $(name).ariaPressed = String(mode === name);
   layPad();
   point(table.marks);
 }

@@ -46,19 +46,20 @@ function keys(puzzle, isTouched) {
   if (puzzle.block) {
     return "Ein Feld und eine Zahl wählen, ziehen wählt mehrere, eine gehaltene Zahl kommt in jedes Feld, " +
       "das man anklickt. Tasten: Pfeile, Ziffern, " +
-      "Umschalt und Ziffer für eine Notiz, N Notizen, 0 oder Entf, H Tipp, C Prüfen.";
+      "Umschalt und Ziffer für eine Notiz, N Notizen, K Notizen in den Ecken, 0 oder Entf, H Tipp, C Prüfen.";
   }
-  if (isTouched) return `Tippen für ${name}, Punkt, leer. Ein Feld kurz halten, dann ziehen. Eine Zahl ` +
-    `eines Hinweises antippen streicht sie.`;
-  return `Klicken für ${name}, Punkt, leer; rechts klicken für einen Punkt; ziehen zeichnet; eine Zahl ` +
-    `eines Hinweises anklicken streicht sie. ` +
+  const isCrossed = puzzle.rows.length > 0;
+  if (isTouched) return `Tippen für ${name}, Punkt, leer. Ein Feld kurz halten, dann ziehen.` +
+    `${isCrossed ? " Eine Zahl eines Hinweises antippen streicht sie." : ""}`;
+  return `Klicken für ${name}, Punkt, leer; rechts klicken für einen Punkt; ziehen zeichnet` +
+    `${isCrossed ? "; eine Zahl eines Hinweises anklicken streicht sie" : ""}. ` +
     "Tasten: Pfeile, mit Umschalt zeichnen, Leertaste, X für einen Punkt, Entf, H Tipp, C Prüfen.";
 }
 
 const PROVED = "Vom Programm bewiesen: ";
 export default {
   language: "Deutsch", games: GAMES, levels: LEVELS, line, size, kind, keys, brokenRule, hint,
-  columns: "Spalten", none: "keine", clue: "Hinweis", notes: "Notizen",
+  columns: "Spalten", none: "keine", clue: "Hinweis", notes: "Notizen", corners: "in den Ecken",
   signs: { ".": "leer", "•": "Punkt", "#": "schwarz", O: "Lampe", "^": "Zelt", T: "Baum" },
   states: { given: "vorgegeben", met: "erfüllt", lit: "beleuchtet", broken: "gegen die Regeln",
     wrong: "falsch", marked: "markiert", hint: "Tipp", differs: "verschieden" },
@@ -142,7 +143,7 @@ export default {
   page: {
     game: "Spiel", today: "Von heute", clock: "Zeit", puzzle: "Rätsel", numbers: "Zahlen", steps: "Schritte",
     answers: "Antworten", more: "Mehr",
-    undo: "Zurück", redo: "Wieder", notes: "Notizen", colours: "Farbe", colour: "Farbe", erase: "Leeren",
+    undo: "Zurück", redo: "Wieder", notes: "Notizen", corners: "Ecken", colours: "Farbe", colour: "Farbe", erase: "Leeren",
     hint: "Tipp", check: "Prüfen", solve: "Lösen",
     grade: "Grad", allNotes: "Alle Notizen", mark: "Merken", back: "Zur Marke", startOver: "Von vorn",
     share: "Teilen", paper: "Drucken",

@@ -43,19 +43,20 @@ function keys(puzzle, isTouched) {
   if (puzzle.block) {
     return "Choose a cell and a number, drag to choose several, hold a number to put it into each cell you " +
       "click. Keys: arrows, digits, " +
-      "Shift and a digit for a note, N notes, 0 or Delete, H hint, C check.";
+      "Shift and a digit for a note, N notes, K notes in the corners, 0 or Delete, H hint, C check.";
   }
-  if (isTouched) return `Tap for ${name}, dot, blank. Hold a cell for a moment, then draw from it. Tap a ` +
-    `number of a clue to cross it off.`;
-  return `Click for ${name}, dot, blank; right click for a dot; drag to draw; click a number of a clue to ` +
-    `cross it off. ` +
+  const isCrossed = puzzle.rows.length > 0;
+  if (isTouched) return `Tap for ${name}, dot, blank. Hold a cell for a moment, then draw from it.` +
+    `${isCrossed ? " Tap a number of a clue to cross it off." : ""}`;
+  return `Click for ${name}, dot, blank; right click for a dot; drag to draw` +
+    `${isCrossed ? "; click a number of a clue to cross it off" : ""}. ` +
     "Keys: arrows, with Shift to draw, Space, X for a dot, Delete, H hint, C check.";
 }
 
 const PROVED = "Proved by the program: ";
 export default {
   language: "English", games: GAMES, levels: LEVELS, line, size, kind, keys, brokenRule, hint,
-  columns: "columns", none: "none", clue: "clue", notes: "notes",
+  columns: "columns", none: "none", clue: "clue", notes: "notes", corners: "in the corners",
   signs: { ".": "blank", "•": "dot", "#": "black", O: "bulb", "^": "tent", T: "tree" },
   states: { given: "given", met: "met", lit: "lit", broken: "against the rules", wrong: "wrong",
     marked: "marked", hint: "hint", differs: "differs" },
@@ -135,7 +136,7 @@ export default {
   page: {
     game: "Game", today: "Today’s", clock: "Time", puzzle: "Puzzle", numbers: "Numbers", steps: "Steps",
     answers: "Answers", more: "More",
-    undo: "Undo", redo: "Redo", notes: "Notes", colours: "Colour", colour: "colour", erase: "Erase",
+    undo: "Undo", redo: "Redo", notes: "Notes", corners: "Corner", colours: "Colour", colour: "colour", erase: "Erase",
     hint: "Hint", check: "Check", solve: "Solve",
     grade: "Grade", allNotes: "All notes", mark: "Mark this", back: "Back to mark", startOver: "Start over",
     share: "Share", paper: "Print",
