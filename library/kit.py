@@ -1,4 +1,4 @@
-"""Rattle's kit: where its parts lie, and a run of it that keeps what it hands to its compiler. For `build.py`."""
+"""Rattle's kit: where its parts lie, and a run of it that keeps what it hands to its compiler. For `build.py` and `edits.py`."""
 import os
 import pathlib
 import shutil
@@ -8,11 +8,14 @@ PROVING_SECONDS = 3 * 3600
 STEP_SECONDS = 900
 SMALL = 1 << 20  # bytes; of the kit's own commands the scripts are smaller, and find the kit by where they lie
 
-# Stands in the place of clang: keeps the module that it is to compile, and has it compiled.
+# Stands in the place of clang: keeps the module that it is to compile, and has it compiled. Where it is to keep that of a certain
+# word alone, it ends there.
 KEEPER = """#!/bin/sh
+case "$*" in *"{only}"*) ;; *) exec "{clang}" "$@" ;; esac
 for word in "$@"; do
     case $word in *.bc) cp "$word" "{kept}" ;; esac
 done
+[ -z "{only}" ] || exit 1
 exec "{clang}" "$@"
 """
 
@@ -49,8 +52,10 @@ class Kit:
             raise Failed(f"{len(found)} files {pattern} in the kit {self.folder}, and not one")
         return found[0]
 
-    def linked(self, room):
-        """A copy of the kit by links, but for its scripts and for clang, which keeps its module as module.bc in the room."""
+    def linked(self, room, only=""):
+        """A copy of the kit by links, but for its scripts and for clang, which keeps its module as module.bc in the room. Where
+        a word is given, it keeps that of a call with the word alone, and ends there.
+        """
         copy, opened = room / "kit", {self.folder, self.folder / "bin", self.clang.parent.parent, self.clang.parent}
         for folder in sorted(opened):
             below = copy / folder.relative_to(self.folder)
@@ -61,7 +66,7 @@ class Kit:
                 else:
                     (below / file.name).symlink_to(file)
         keeper = copy / self.clang.relative_to(self.folder)
-        keeper.write_text(KEEPER.format(kept=room / "module.bc", clang=self.clang))
+        keeper.write_text(KEEPER.format(kept=room / "module.bc", clang=self.clang, only=only))
         keeper.chmod(0o755)
         return copy
 

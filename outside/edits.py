@@ -1,20 +1,25 @@
 #!/usr/bin/env python3
 """Tells of each wrong body which test finds it, or that a contract alone does; and has the prover take ten right ones.
 
-Each edit of crates/*/must-fail is applied in a copy of the tree, in which the tests of core_tests and of the program run without
-any proof. So a failure shows what the edit does, and not what a proof stands on. An edit is told by the first test that
-passes without it and fails with it. One that no test tells is left to its contract: the gate tries it there.
+A wrong body is an edit of crates/*/must-fail. The tests of core_tests and of the program run without any proof. So a failure
+shows what the edit does, and not what a proof stands on. An edit is told by the first test that passes without it and fails
+with it. One that no test tells is left to its contract: the gate tries it there.
+
+A copy of the tree holds all edits at once, each beside what it changes. Its tests are built once, and an edit is chosen by its
+number as they run. A test that doesn't meet an edit's function isn't run for it. An edit that can't be held so is applied alone,
+and the tests are built for it.
 
 A right body means the same as the one that it replaces, in a function that has no proof of its own: tactics alone prove it.
-They stand in outside/right_bodies, in the form of the others, each with a line `# proves: FUNCTION`. There `rt check` runs.
+They stand in outside/right_bodies, in the form of the others, each with a line `# proves: FUNCTION`. There `rt check` runs. It
+begins with the libraries that are proved in this tree, and else proves them.
+
+needs: rt, git, cc
 """
 import argparse
 import concurrent.futures
-import dataclasses
 import os
 import pathlib
 import queue
-import re
 import shutil
 import signal
 import subprocess
@@ -23,72 +28,71 @@ import tempfile
 import threading
 import time
 
-TOP = pathlib.Path(__file__).resolve().parent.parent
+sys.dont_write_bytecode = True
+from edits_program import Failed, Kit, TestProgram  # noqa: E402
+from edits_tree import TOP, Copy, Edit, Fault, NotBuilt, below, crates_of  # noqa: E402
+
 RIGHT = TOP / "outside/right_bodies"
 # The crates whose tests run, for an edit of the program's own two crates and for one of another.
 PROGRAM = ("commands", "puzzles")
 TESTS = {True: ("puzzles", "core_tests"), False: ("core_tests", "puzzles")}
-TEST_LINE = re.compile(r"^test (\S+) \.\.\. (\w+)")
 
 
-class Fault(Exception):
-    """What stops the script, in words."""
+def say(words):
+    print(words, file=sys.stderr, flush=True)
 
 
-@dataclasses.dataclass(frozen=True)
-class Edit:
-    """A file of a crate, and lines of it that are replaced."""
-    crate: str
-    name: str
-    file: str
-    pairs: tuple
-    proves: str
+class WrongBodies:
+    """The tests of the crates that have such an edit below them, built with all edits that function bodies can hold."""
 
-    @classmethod
-    def read(cls, path, crate):
-        lines = path.read_text(encoding="utf-8").splitlines()
+    def __init__(self, edits, room, asked):
+        self.kit, self.room, self.asked = Kit(None), room, asked
+        crates = crates_of(TOP)
+        self.seen_by = {edit: [name for name in TESTS[edit.crate in PROGRAM] if edit.crate in below(crates, name)]
+                        for edit in edits}
+        self.names = [name for name in TESTS[False] if any(name in seers for seers in self.seen_by.values())]
+        self.numbers = {edit: number for number, edit in enumerate(edits, 1) if self.seen_by[edit]}
+        self.alone, barred = set(), set()
+        self.programs = None if self.names else {}
+        while self.programs is None:
+            barred |= self.build(barred)
+        for name, made in self.programs.items():
+            print(f"{name}: {len(made.met)} of {len(made.tests)} tests pass without an edit", flush=True)
 
-        def told(word):
-            return [line.removeprefix(word).removeprefix(" ") for line in lines if line.startswith(word)]
+    def build(self, barred):
+        """Builds the tests with all edits but the barred ones, which are tried alone. It gives those that don't compile so."""
+        held = {edit: number for edit, number in self.numbers.items() if number not in barred}
+        with tempfile.TemporaryDirectory(dir=self.room) as folder, concurrent.futures.ThreadPoolExecutor(self.asked.jobs) as pool:
+            copy = Copy(pathlib.Path(folder))
+            self.alone = {edit for edit in self.numbers if edit not in held}.union(copy.hold(held))
+            say(f"builds the tests of {' and of '.join(self.names)} with {len(self.numbers) - len(self.alone)} edits at once")
+            tried = {name: pool.submit(TestProgram, self.kit, copy, name, self.room / name, self.asked) for name in self.names}
+            faults = {name: run.exception() for name, run in tried.items()}
+            named = set().union(*(copy.named_in(fault.said, name) for name, fault in faults.items()
+                                  if isinstance(fault, NotBuilt)))
+        if not named:
+            self.programs = {name: run.result() for name, run in tried.items()}
+        else:
+            say(f"{len(named)} edits don't compile beside what they change, and are tried alone")
+        return named
 
-        files, olds, news = told("file:"), told("old:"), told("new:")
-        if len(files) != 1 or not olds or len(olds) != len(news):
-            raise Fault(f"{path} is no edit: one line 'file:', and as many 'old:' as 'new:'")
-        proves, crates = "".join(told("# proves:")), "".join(told("crate:"))
-        return cls(crate or crates, path.stem, files[0].strip(), tuple(zip(olds, news)), proves)
+    def telling(self, edit, copies):
+        """The first test that passes without the edit and fails with it, with its crate; nothing if there is none."""
+        for name in self.seen_by[edit]:
+            if edit in self.alone:
+                found = copies.lend(lambda copy, name=name: copy.with_edit(edit, lambda: self.telling_alone(edit, copy, name)))
+            else:
+                found, count = self.programs[name].telling(self.numbers[edit])
+                say(f"  {edit.crate}/{edit.name}: {count} tests of {name} meet it, and {'one tells' if found else 'none tells'}")
+            if found:
+                return f"{name}: {found}"
+        return None
 
-    def text(self, folder):
-        """The edited text of the file in a copy of the tree."""
-        text = (folder / "crates" / self.crate / self.file).read_text(encoding="utf-8")
-        for old, new in self.pairs:
-            if text.count(old) != 1:
-                raise Fault(f"{self.crate}/{self.name}: its old text stands {text.count(old)} times in {self.file}")
-            text = text.replace(old, new)
-        return text
-
-
-class Copy:
-    """A copy of the tracked files of the tree, in which one edit at a time is applied."""
-
-    def __init__(self, folder):
-        self.folder = folder
-        listed = subprocess.run(["git", "ls-files", "-z", "crates", "crates.txt", "HANDLES"], cwd=TOP, check=True,
-                                capture_output=True, timeout=60).stdout.decode()
-        for name in filter(None, listed.split("\0")):
-            if (TOP / name).is_file():
-                (folder / name).parent.mkdir(parents=True, exist_ok=True)
-                shutil.copy2(TOP / name, folder / name)
-        subprocess.run(["git", "init", "--quiet", folder], check=True, timeout=60)
-
-    def with_edit(self, edit, work):
-        """What the work comes to while the edit is applied."""
-        path = self.folder / "crates" / edit.crate / edit.file
-        text = path.read_text(encoding="utf-8")
-        path.write_text(edit.text(self.folder), encoding="utf-8")
-        try:
-            return work()
-        finally:
-            path.write_text(text, encoding="utf-8")
+    def telling_alone(self, edit, copy, name):
+        say(f"  {edit.crate}/{edit.name}: builds the tests of {name} for it alone")
+        with tempfile.TemporaryDirectory(dir=self.room) as room:
+            made = TestProgram(self.kit, copy, name, pathlib.Path(room) / "alone", self.asked)
+        return next((test for test in self.programs[name].met if test not in made.met), None)
 
 
 def lines_of(words, folder, seconds):
@@ -109,39 +113,23 @@ def lines_of(words, folder, seconds):
         run.stdout.close()
 
 
-def tests_of(copy, crate, asked):
-    """The tests of a crate, each with whether it passes, in the order in which they run."""
-    words = ["nice", "rt", "try", "--test", "--steps", "1", "--seconds", str(asked.test_seconds)]
-    ran = False
-    for line in lines_of(words, copy.folder / "crates" / crate, asked.seconds):
-        if found := TEST_LINE.match(line):
-            ran = True
-            yield found[1], found[2] == "ok"
-    if not ran:
-        raise Fault(f"the tests of {crate} aren't built")
-
-
-def telling(copy, edit, passing, asked):
-    """The first test that passes without the edit and fails with it, with its crate; nothing if there is none."""
-    def work():
-        for crate in TESTS[edit.crate in PROGRAM]:
-            for name, passes in tests_of(copy, crate, asked):
-                if not passes and name in passing[crate]:
-                    return f"{crate}: {name}"
-        return None
-    return copy.with_edit(edit, work)
-
-
 def is_proved(copy, edit, asked):
     """Whether the prover takes the function with the edit."""
+    for name in below(crates_of(TOP), edit.crate) - {edit.crate}:
+        made, here = (folder / "crates" / name / "out/rlib" for folder in (TOP, copy.folder))
+        if made.is_dir() and not here.exists():
+            shutil.copytree(made, here)
     words = ["nice", "rt", "check", "--jobs", "1", "--only", edit.proves]
     said = copy.with_edit(edit, lambda: list(lines_of(words, copy.folder / "crates" / edit.crate, asked.seconds)))
     names = [line for line in said if line.startswith("fn ") and f"::{edit.proves.split('::')[-1]}:" in line]
-    return bool(names) and all(line.rstrip().endswith(": proved") for line in names)
+    taken = bool(names) and all(line.rstrip().endswith(": proved") for line in names)
+    if not taken:
+        say(f"  {edit.crate}/{edit.name}: rt check ends with\n{''.join(said[-8:])}")
+    return taken
 
 
 class Copies:
-    """As many copies as edits are tried at once."""
+    """As many copies as edits are tried at once, in which one edit at a time is applied."""
 
     def __init__(self, folder, count):
         self.free = queue.SimpleQueue()
@@ -167,34 +155,24 @@ def chosen(asked):
     return both
 
 
-def try_all(edits, tried, told, copies, asked):
-    """What trying each edit comes to, as many at once as there are copies. Each is told as it comes."""
+def try_all(edits, tried, told, asked):
+    """What trying each edit comes to, so many at once as was asked for. Each is told as it comes."""
     begun, found = time.monotonic(), {}
     with concurrent.futures.ThreadPoolExecutor(asked.jobs) as pool:
-        waiting = {pool.submit(copies.lend, lambda copy, edit=edit: tried(copy, edit)): edit for edit in edits}
+        waiting = {pool.submit(tried, edit): edit for edit in edits}
         try:
             for done in concurrent.futures.as_completed(waiting):
                 edit = waiting[done]
                 try:
                     found[edit] = done.result()
                     words = told(found[edit])
-                except Fault as fault:
+                except (Fault, subprocess.TimeoutExpired) as fault:
                     words = f"not tried: {fault}"
                 print(f"{edit.crate}/{edit.name}: {words}", flush=True)
-                print(f"  {len(found)} of {len(edits)} in {time.monotonic() - begun:.0f} s", file=sys.stderr, flush=True)
+                say(f"  {len(found)} of {len(edits)} in {time.monotonic() - begun:.0f} s")
         finally:
             pool.shutdown(cancel_futures=True)
     return found
-
-
-def passing_without(copies, asked):
-    """The tests of each crate that pass without an edit."""
-    passing = {}
-    for crate in TESTS[True]:
-        tests = copies.lend(lambda copy, crate=crate: list(tests_of(copy, crate, asked)))
-        passing[crate] = {name for name, passes in tests if passes}
-        print(f"{crate}: {len(passing[crate])} of {len(tests)} tests pass without an edit", flush=True)
-    return passing
 
 
 def read_words():
@@ -205,25 +183,26 @@ def read_words():
     form.add_argument("--only", default="", metavar="TEXT",
                       help="the edits whose CRATE/NAME has the text alone")
     form.add_argument("--jobs", type=int, choices=range(1, 5), default=1, help="how many edits are tried at once")
-    form.add_argument("--test-seconds", type=int, default=60, metavar="S", help="how long a test may run")
+    form.add_argument("--test-seconds", type=int, default=20, metavar="S", help="how long a test may have the processor")
     form.add_argument("--seconds", type=int, default=1_800, metavar="S",
-                      help="how long all tests of a crate, or a check, may take")
+                      help="how long each step of a build, or a check, may take")
     return form.parse_args()
 
 
 def main():
     asked = read_words()
     wrong, right = chosen(asked)
-    with tempfile.TemporaryDirectory() as folder:
-        copies = Copies(pathlib.Path(folder), asked.jobs)
+    with tempfile.TemporaryDirectory(prefix="puzzles-edits-") as folder:
+        room = pathlib.Path(folder)
+        copies = Copies(room, asked.jobs)
         found = proved = {}
         if wrong:
-            passing = passing_without(copies, asked)
-            found = try_all(wrong, lambda copy, edit: telling(copy, edit, passing, asked),
-                            lambda test: f"told by {test}" if test else "told by its contract alone", copies, asked)
+            bodies = WrongBodies(wrong, room, asked)
+            found = try_all(wrong, lambda edit: bodies.telling(edit, copies),
+                            lambda test: f"told by {test}" if test else "told by its contract alone", asked)
         if right:
-            proved = try_all(right, lambda copy, edit: is_proved(copy, edit, asked),
-                             lambda taken: "proved" if taken else "NOT PROVED", copies, asked)
+            proved = try_all(right, lambda edit: copies.lend(lambda copy: is_proved(copy, edit, asked)),
+                             lambda taken: "proved" if taken else "NOT PROVED", asked)
     tests, taken = sum(map(bool, found.values())), sum(proved.values())
     print(f"{len(wrong)} wrong bodies: {tests} told by tests, {len(found) - tests} by contracts alone, "
           f"{len(wrong) - len(found)} not tried; {len(right)} right bodies: {taken} proved, {len(right) - taken} not")
@@ -233,7 +212,7 @@ def main():
 if __name__ == "__main__":
     try:
         main()
-    except Fault as fault:
+    except (Fault, Failed) as fault:
         sys.exit(f"edits.py: {fault}")
     except (OSError, subprocess.SubprocessError) as fault:
         sys.exit(f"edits.py: {fault}")

@@ -23,7 +23,7 @@ import time
 
 sys.dont_write_bytecode = True
 import library_cases as cases  # noqa: E402
-from words import processor_seconds  # noqa: E402
+from lib.words import processor_seconds  # noqa: E402
 
 TOP = cases.TOP
 sys.path.insert(0, str(TOP / "examples" / "library"))

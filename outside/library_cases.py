@@ -10,10 +10,10 @@ import random
 import subprocess
 import sys
 
-TOP = pathlib.Path(__file__).resolve().parent.parent
-sys.path.insert(0, str(TOP / "bench"))
-import ids  # noqa: E402
+import shared
+from lib import real as ids
 
+TOP = pathlib.Path(__file__).resolve().parent.parent
 RUN_SECONDS = 120
 MAKING_SECONDS = 60  # of one kind
 WORKERS = 2

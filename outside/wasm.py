@@ -7,7 +7,8 @@ PROGRAM is as `rt run` leaves it: crates/puzzles/out/puzzles. The module is that
 and builds it, into library/out. LIST is of node, chromium and firefox, with commas, and else all three. Each makes the calls of
 `outside/library.py` and compares status and text with the program's: Node for N puzzles, 2,000 unless it is said, with five calls
 each; a browser for N calls, 1,000 unless it is said. Each also tries: a memory that is full, a call that stops in the module, and
-the calls after both; arguments that are refused; bytes that are no module. It tells the sizes, the times and the stack.
+the calls after both; arguments that are refused; bytes that are no module. It tells the sizes, the stack and the times: those of
+the processor, in all of the engine's processes, and the mean of twenty.
 It needs cc, and Debian's nodejs, chromium and firefox-esr for what is asked. The status is 1 if anything differs.
 """
 import argparse
@@ -36,14 +37,15 @@ sys.path.insert(0, str(TOP / "library"))
 import module  # noqa: E402
 
 BUILD_SECONDS = 4 * 3600
-ENGINE_SECONDS = 900
+ENGINE_SECONDS = 1800
 END_SECONDS = 10
 FILES = [TOP / "outside" / "wasm_compare.js", TOP / "outside" / "wasm_page.html", TOP / "library" / "puzzles.js"]
 IN_NODE = """
 import { readFile } from "node:fs/promises";
 import { tried } from "./wasm_compare.js";
 const [bytes, given] = await Promise.all(["puzzles.wasm", "node.json"].map((file) => readFile(file)));
-console.log(JSON.stringify(await tried(() => bytes, JSON.parse(given))));
+const spent = () => (process.cpuUsage().user + process.cpuUsage().system) / 1000;
+console.log(JSON.stringify(await tried(() => bytes, spent, JSON.parse(given))));
 """
 BROWSERS = {
     "chromium": ["chromium", "--headless=new", "--no-sandbox", "--disable-gpu", "--no-first-run", "--user-data-dir={}"],
@@ -58,9 +60,18 @@ WANTED = {"full": [5, True], "broken": [True, True, 5, True],
 class Handler(http.server.SimpleHTTPRequestHandler):
     """Serves the folder, and takes what the page found."""
 
-    def __init__(self, results, *more, **how):
-        self.results = results
+    def __init__(self, results, browser, *more, **how):
+        self.results, self.browser = results, browser
         super().__init__(*more, **how)
+
+    def do_GET(self):
+        if self.path != "/spent":
+            return super().do_GET()
+        told = json.dumps(spent(self.browser[0])).encode()
+        self.send_response(200)
+        self.send_header("Content-Length", str(len(told)))
+        self.end_headers()
+        return self.wfile.write(told)
 
     def do_POST(self):
         self.results.put(self.rfile.read(int(self.headers["Content-Length"])))
@@ -71,9 +82,19 @@ class Handler(http.server.SimpleHTTPRequestHandler):
         pass
 
 
+def spent(session):
+    """Milliseconds of the processor that the processes of a session took so far."""
+    ticks = 0
+    for status in pathlib.Path("/proc").glob("[0-9]*/stat"):
+        with contextlib.suppress(OSError):
+            fields = status.read_text().rpartition(") ")[2].split()
+            ticks += int(fields[11]) + int(fields[12]) if int(fields[3]) == session else 0
+    return 1000 * ticks / os.sysconf("SC_CLK_TCK")
+
+
 def write_cases(all_cases, file):
     """The cases for JavaScript, whose numbers stand in texts: some are too long for its own."""
-    told = [dataclasses.asdict(case) for case in all_cases if case.game in cases.GAMES]
+    told = [dataclasses.asdict(case) for case in all_cases]
     for case in told:
         case["options"] = {name: value if isinstance(value, bool) else str(value) for name, value in case["options"].items()}
     file.write_text(json.dumps({"cases": told, "stack": module.STACK}))
@@ -87,20 +108,21 @@ def in_node(folder):
 
 @contextlib.contextmanager
 def served(folder):
-    """A server of the folder on this machine: its address, and what pages found."""
-    results = queue.Queue()
-    handler = functools.partial(Handler, results, directory=folder)
+    """A server of the folder on this machine: its address, what pages found, and room for the number of the browser."""
+    results, browser = queue.Queue(), [0]
+    handler = functools.partial(Handler, results, browser, directory=folder)
     with http.server.ThreadingHTTPServer(("127.0.0.1", 0), handler) as server:
         threading.Thread(target=server.serve_forever, daemon=True).start()
-        yield f"http://127.0.0.1:{server.server_port}", results
+        yield f"http://127.0.0.1:{server.server_port}", results, browser
         server.shutdown()
 
 
 def in_browser(name, folder):
-    with served(folder) as (address, results), tempfile.TemporaryDirectory(ignore_cleanup_errors=True) as profile:
+    with served(folder) as (address, results, number), tempfile.TemporaryDirectory(ignore_cleanup_errors=True) as profile:
         words = [word.format(profile) for word in BROWSERS[name]]
         browser = subprocess.Popen([*words, f"{address}/wasm_page.html"], stdin=subprocess.DEVNULL, stdout=subprocess.DEVNULL,
                                    stderr=subprocess.DEVNULL, start_new_session=True)
+        number[0] = browser.pid
         try:
             return json.loads(results.get(timeout=ENGINE_SECONDS))
         except queue.Empty:
@@ -122,9 +144,8 @@ def tell(name, found):
     faults = [*found["differing"], *(f"{part}: {found[part]}" for part, wanted in WANTED.items() if found[part] != wanted)]
     for fault in faults[:20]:
         print(f"{name}: DIFFERS: {fault}")
-    each = ", ".join(f"{time:.0f}" for time in found["passes"])
-    print(f"{name}: {found['count']:,} answers, {len(found['differing']):,} differ; start {found['start']:.0f} ms; "
-          f"a solve {each} µs in three passes; stack {found['stack']:,} bytes; memory {found['memory']:,} bytes; "
+    print(f"{name}: {found['count']:,} answers, {len(found['differing']):,} differ; start {found['start']:.1f} ms; "
+          f"a solve {found['solve']:.0f} µs; stack {found['stack']:,} bytes; memory {found['memory']:,} bytes; "
           f"{len(faults)} faults", flush=True)
     return len(faults)
 
@@ -158,7 +179,7 @@ def compare(asked, room, folder):
     for each in [file, *FILES]:
         shutil.copy(each, room)
     (room / "package.json").write_text('{ "type": "module" }')
-    all_cases = cases.all_cases(asked.program, asked.puzzles)
+    all_cases = [case for case in cases.all_cases(asked.program, asked.puzzles) if case.game in cases.GAMES]
     write_cases(all_cases, room / "node.json")
     write_cases(random.Random(1).sample(all_cases, min(asked.in_browsers, len(all_cases))), room / "cases.json")
     engines = {"node": in_node, **{name: functools.partial(in_browser, name) for name in BROWSERS}}
