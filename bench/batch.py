@@ -8,11 +8,11 @@ beside. Nothing is asserted; the first words of the answers' first lines are cou
 import collections
 import pathlib
 import subprocess
-import sys
 import time
 
-sys.dont_write_bytecode = True
-import words  # noqa: E402
+import shared
+from lib import words
+from lib.work import begin
 
 ANSWERS = {"none", "one", "several", "gave", "refused:"}
 RUN_SECONDS = 3600
@@ -48,4 +48,4 @@ def main():
 
 
 if __name__ == "__main__":
-    words.begin(main)
+    begin(main)

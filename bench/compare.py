@@ -14,9 +14,9 @@ import shutil
 import subprocess
 import sys
 
-sys.dont_write_bytecode = True
-import ids  # noqa: E402
-import words  # noqa: E402
+import shared
+from lib import real, words
+from lib.work import begin
 
 # Game, size, what the collection's program is told beside the size, and how many puzzles.
 GROUPS = (
@@ -79,7 +79,7 @@ def counted(lines, found):
 
 def compare_solving(programs, game, size, more, count):
     """Prints the row of a group, and says whether the answers are the same."""
-    found, maker = ids.some(programs[0], game, size, more, count, MAKING_SECONDS)
+    found, maker = real.some(programs[0], game, size, more, count, MAKING_SECONDS)
     name = f"{game}-{size}{more}"
     if not found:
         print(f"| {name} | no puzzle was made in {MAKING_SECONDS} s |", flush=True)
@@ -131,4 +131,4 @@ def main():
 
 
 if __name__ == "__main__":
-    words.begin(main)
+    begin(main)

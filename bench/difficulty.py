@@ -7,12 +7,14 @@ processor time, the middle number of clues, and the grades of what was made, by 
 """
 import collections
 import re
+import statistics
 import subprocess
 import sys
 import time
 
-sys.dont_write_bytecode = True
-import words  # noqa: E402
+import shared
+from lib import words
+from lib.work import begin
 
 BUDGETS = ["0", "10", "1000", "100000"]
 KINDS = [
@@ -38,10 +40,6 @@ def grade_of(program, game, text):
     return subprocess.run(line, stdin=subprocess.DEVNULL, capture_output=True, text=True, check=False).stdout.split()[0]
 
 
-def middle(numbers):
-    return sorted(numbers)[len(numbers) // 2]
-
-
 def cell(program, game, size, budget, count, seconds):
     """What the runs of a kind by a budget came to."""
     runs, end = [], time.monotonic() + seconds
@@ -50,11 +48,11 @@ def cell(program, game, size, budget, count, seconds):
     texts = [text for _, text in runs if text]
     if not texts:
         ended = "over" if any(text is None for _, text in runs) else "exhausted,"
-        return f"{ended} {middle([taken for taken, _ in runs]):.2g} s ({len(runs)})"
+        return f"{ended} {statistics.median_high([taken for taken, _ in runs]):.2g} s ({len(runs)})"
     grades = collections.Counter(grade_of(program, game, text) for text in texts)
-    told = [f"{middle([taken for taken, text in runs if text is not None]):.2g} s"]
+    told = [f"{statistics.median_high([taken for taken, text in runs if text is not None]):.2g} s"]
     if game in CLUES:
-        clues = middle([len(re.findall(CLUES[game], text.partition(":")[2])) for text in texts])
+        clues = statistics.median_high([len(re.findall(CLUES[game], text.partition(":")[2])) for text in texts])
         told.append(f"{clues} clues")
     several = [f"{number} {grade}" for grade, number in grades.most_common()]
     if len(texts) < len(runs):
@@ -75,4 +73,4 @@ def main():
 
 
 if __name__ == "__main__":
-    words.begin(main)
+    begin(main)

@@ -12,51 +12,30 @@ import sys
 import tempfile
 import time
 
-sys.dont_write_bytecode = True
-import words  # noqa: E402
+import shared
+from lib import words
+from lib.composed import blank, composed, tents
+from lib.work import begin
 
 SIDE = 120
-CELLS = SIDE * SIDE
+SIZE = f"{SIDE}x{SIDE}"
 POLL_SECONDS = 0.0005
 RUN_SECONDS = 600
 TRIES = 50  # a run of a millisecond may end unseen
-
-
-def run_of_letters(count):
-    """Blank cells of Solo and white cells of Light Up: 26 a `z`, and one letter for the rest."""
-    full, rest = divmod(count - 1, 26)
-    return "z" * full + chr(ord("a") + rest)
-
-
-def trees(places):
-    """The trees of Tents at these places: the blanks before each tree, and before the one after the last cell."""
-    text, before = "", -1
-    for place in [*places, CELLS]:
-        full, rest = divmod(place - before - 1, 25)
-        if rest == 0 and full > 0:
-            full, rest = full - 1, 25
-        text += "z" * full + (chr(ord("a") + rest - 1) if rest else "_")
-        before = place
-    return text
-
-
-def tents(places, columns, rows):
-    return f"{SIDE}x{SIDE}:{trees(places)}" + "".join(f",{count}" for count in [*columns, *rows])
 
 
 def puzzles():
     """Of each puzzle its name, its game, its ID, and further words."""
     every_other = [SIDE // 2 if k % 2 == 0 else 0 for k in range(SIDE)]
     below_tents = [y * SIDE + x for y in range(1, SIDE, 2) for x in range(0, SIDE, 2)]
-    none = [0] * SIDE
     return [
-        ("all black", "pattern", f"{SIDE}x{SIDE}:" + "/".join([str(SIDE)] * 2 * SIDE), []),
-        ("all white", "pattern", f"{SIDE}x{SIDE}:" + "/" * (2 * SIDE - 1), []),
-        ("all white", "lightup", f"{SIDE}x{SIDE}:" + run_of_letters(CELLS), ["--budget", "0"]),
-        ("all black", "lightup", f"{SIDE}x{SIDE}:" + "B" * CELLS, []),
-        ("no trees", "tents", tents([], none, none), []),
-        (f"{len(below_tents)} trees", "tents", tents(below_tents, every_other, every_other), []),
-        ("blank", "solo", "5x6:" + run_of_letters(900), ["--budget", "0"]),
+        ("all black", "pattern", composed("pattern", SIZE, clues=[[SIDE]] * 2 * SIDE), []),
+        ("all white", "pattern", composed("pattern", SIZE, clues=[[]] * 2 * SIDE), []),
+        ("all white", "lightup", blank("lightup", SIZE), ["--budget", "0"]),
+        ("all black", "lightup", composed("lightup", SIZE, ["#"] * SIDE * SIDE), []),
+        ("no trees", "tents", tents(SIDE, [], [0] * SIDE), []),
+        (f"{len(below_tents)} trees", "tents", tents(SIDE, below_tents, every_other), []),
+        ("blank", "solo", blank("solo", "5x6"), ["--budget", "0"]),
     ]
 
 
@@ -103,4 +82,4 @@ def main():
 
 
 if __name__ == "__main__":
-    words.begin(main)
+    begin(main)

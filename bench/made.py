@@ -9,8 +9,9 @@ made one. Nothing is asserted.
 """
 import sys
 
-sys.dont_write_bytecode = True
-import words  # noqa: E402
+import shared
+from lib import words
+from lib.work import begin
 
 # The sizes of a game, ascending, and the values of --black, or none.
 KINDS = [
@@ -76,4 +77,4 @@ def main():
 
 
 if __name__ == "__main__":
-    words.begin(main)
+    begin(main)

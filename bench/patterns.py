@@ -7,11 +7,12 @@ Nothing is asserted: a puzzle that is given up counts as one that is solved.
 """
 import random
 import subprocess
-import sys
 import time
 
-sys.dont_write_bytecode = True
-import words  # noqa: E402
+import shared
+from lib import words
+from lib.composed import pattern
+from lib.work import begin
 
 RUN_SECONDS = 600
 
@@ -19,22 +20,6 @@ RUN_SECONDS = 600
 def bitmap(draws, side):
     circles = [(draws.randrange(side), draws.randrange(side), draws.randrange(2, side // 4)) for _ in range(side // 3)]
     return [[any((x - a) ** 2 + (y - b) ** 2 < r * r for a, b, r in circles) for x in range(side)] for y in range(side)]
-
-
-def runs(line):
-    lengths, run = [], 0
-    for black in [*line, False]:
-        if black:
-            run += 1
-        elif run:
-            lengths.append(str(run))
-            run = 0
-    return ".".join(lengths)
-
-
-def game_id(rows):
-    lines = [*zip(*rows), *rows]
-    return f"{len(rows[0])}x{len(rows)}:" + "/".join(runs(line) for line in lines)
 
 
 def seconds(program, ids):
@@ -57,10 +42,10 @@ def main():
     print(f"starting alone: {1e6 * empty / count:.0f} microseconds")
     for side in (20, 30):
         draws = random.Random(side)
-        ids = [game_id(bitmap(draws, side)) for _ in range(count)]
+        ids = [pattern(bitmap(draws, side)) for _ in range(count)]
         taken, answers = seconds(program, ids)
         print(f"{side}x{side}: {1e6 * taken / count:.0f} microseconds per puzzle, {answers}")
 
 
 if __name__ == "__main__":
-    words.begin(main)
+    begin(main)

@@ -9,7 +9,6 @@ It needs GNU parallel, xargs and Debian's python3-distributed for /usr/bin/pytho
 """
 import functools
 import os
-import pathlib
 import shutil
 import signal
 import subprocess
@@ -17,11 +16,9 @@ import sys
 import tempfile
 import time
 
-sys.dont_write_bytecode = True
-sys.path.append(str(pathlib.Path(__file__).resolve().parent.parent / "outside"))
-import dask_job  # noqa: E402
-import ids  # noqa: E402
-import words  # noqa: E402
+import shared
+from lib import dask, real, words
+from lib.work import begin
 
 # The name of a row, its words, whether lines are IDs (of the game, size and letters that follow) or seeds, how many lines are made,
 # and how often these are fed.
@@ -84,7 +81,7 @@ def by_dask(bench, address, path, line, lines):
 @functools.cache
 def made(program, source, count):
     """Puzzles of a kind, made once for all its batches, and who made them."""
-    return ids.some(program, *source, count, MAKING_SECONDS)
+    return real.some(program, *source, count, MAKING_SECONDS)
 
 
 def lines_of(program, source, count, times):
@@ -123,16 +120,16 @@ def main():
     form = words.form(__doc__)
     form.add_argument("jobs", metavar="JOBS", type=words.count, nargs="?", default=os.cpu_count(), help="at a time; else one a core")
     asked = form.parse_args()
-    missing = [tool for tool in TOOLS if not shutil.which(tool)] + ([] if dask_job.has_dask(PYTHON) else ["python3-distributed"])
+    missing = [tool for tool in TOOLS if not shutil.which(tool)] + ([] if dask.has_dask(PYTHON) else ["python3-distributed"])
     if missing:
         form.error(f"needed and not found: {', '.join(missing)}")
     signal.signal(signal.SIGTERM, lambda *_: sys.exit(143))  # so that what was started is ended
     with tempfile.TemporaryDirectory(ignore_cleanup_errors=True) as folder:
-        bench = dask_job.Bench(asked.program, PYTHON, folder)
+        bench = dask.Bench(asked.program, PYTHON, folder)
         try:
-            with dask_job.cluster(bench, asked.jobs) as (address, _, _):
+            with dask.cluster(bench, asked.jobs) as (address, _, _):
                 return measure(bench, address, asked.jobs)
-        except (dask_job.Wrong, OSError, subprocess.SubprocessError) as fault:
+        except (dask.Wrong, OSError, subprocess.SubprocessError) as fault:
             sys.exit(f"split.py: {fault}")
 
 
@@ -156,4 +153,4 @@ def measure(bench, address, jobs):
 
 
 if __name__ == "__main__":
-    words.begin(main)
+    begin(main)

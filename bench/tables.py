@@ -1,13 +1,14 @@
 #!/usr/bin/env python3
-"""Writes the tables of bench/README.md anew, all with one program on this machine, and the minutes of docs/CONTRIBUTING.md.
+"""Writes the tables of bench/README.md anew, all with one program on this machine, that of grades of README.md too, and the minutes
+of docs/CONTRIBUTING.md.
 
-A line `<!-- COMMAND -->` of bench/README.md, with a script of this folder and its words, begins a part, and `<!-- end -->` ends
+A line `<!-- COMMAND -->` of the two, with a script of this folder and its words, begins a part, and `<!-- end -->` ends
 it. What the command prints takes the place of the lines between. PROGRAM stands for the program, and `machine` for what is
 measured on. With --gate LOG, what gate.py wrote to standard error, the table of the gate is written too, or without a PROGRAM it
 alone. A gate that was run in parts, some crates each, has a LOG for each part: the table has their sums.
 docs/CONTRIBUTING.md has the sums of that table: a change is proved with all crates that stand on it (crates.txt).
 
-It takes some 12 minutes, most of them of one core. Nothing is asserted.
+It takes some 20 minutes, most of them of one core. Nothing is asserted.
 """
 import argparse
 import datetime
@@ -18,11 +19,12 @@ import re
 import subprocess
 import sys
 
-sys.dont_write_bytecode = True
-import words  # noqa: E402
+import shared
+from lib import words
+from lib.work import begin
 
 TOP = pathlib.Path(__file__).resolve().parent.parent
-FIGURES, CHANGES = TOP / "bench" / "README.md", TOP / "docs" / "CONTRIBUTING.md"
+FIGURES, FRONT, CHANGES = TOP / "bench" / "README.md", TOP / "README.md", TOP / "docs" / "CONTRIBUTING.md"
 PART = re.compile(r"(?ms)^<!-- (.*?) -->\n(.*?)^<!-- end -->$")
 HEAD = "| Crate | Proof | Tests | Wrong bodies | Their number |\n|---|---|---|---|---|\n"
 COMMAND_SECONDS = 1800
@@ -119,24 +121,35 @@ def with_minutes(text, figures):
     return before + head + "\n".join(told_minutes(line, by_crate, below) for line in rows.splitlines()) + end + after
 
 
+def check():
+    """Tells of minutes in docs/CONTRIBUTING.md that aren't the sums of the gate's table."""
+    if CHANGES.read_text() == with_minutes(CHANGES.read_text(), FIGURES.read_text()):
+        return 0
+    print("docs/CONTRIBUTING.md: minutes that aren't the sums of the gate's table: bench/tables.py --gate LOG writes them")
+    return 1
+
+
 def main():
     form = argparse.ArgumentParser(description=__doc__, formatter_class=argparse.RawDescriptionHelpFormatter)
     form.add_argument("--gate", metavar="LOG", type=argparse.FileType(), action="append",
                       help="what gate.py wrote to standard error; one for each part of a gate that was run in parts")
+    form.add_argument("--check", action="store_true", help="only tell whether docs/CONTRIBUTING.md has the sums of the gate's table")
     form.add_argument("program", metavar="PROGRAM", nargs="?", type=words.program,
                       help="as `rt run` leaves it: crates/puzzles/out/puzzles")
     form.add_argument("parts", metavar="SCRIPT", nargs="*", help="the tables of these alone, as made.py; `machine` is one too")
     asked = form.parse_args()
+    if asked.check:
+        return check()
     if not (asked.program or asked.gate):
         form.error("neither a program nor what gate.py wrote")
-    for command, _ in PART.findall(FIGURES.read_text()):
+    for path, command in [(path, command) for path in (FIGURES, FRONT) for command, _ in PART.findall(path.read_text())]:
         is_asked = not asked.parts or command.split()[0] in asked.parts
         if asked.gate if command == "gate.py" else asked.program and is_asked:
             new = gate_table("".join(log.read() for log in asked.gate)) if command == "gate.py" else printed(command, asked.program)
             part = f"<!-- {command} -->\n{new}<!-- end -->"
-            FIGURES.write_text(PART.sub(lambda old: part if old[1] == command else old[0], FIGURES.read_text()))
+            path.write_text(PART.sub(lambda old: part if old[1] == command else old[0], path.read_text()))
     CHANGES.write_text(with_minutes(CHANGES.read_text(), FIGURES.read_text()))
 
 
 if __name__ == "__main__":
-    words.begin(main)
+    begin(main)

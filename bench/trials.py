@@ -8,9 +8,9 @@ import collections
 import subprocess
 import sys
 
-sys.dont_write_bytecode = True
-import ids  # noqa: E402
-import words  # noqa: E402
+import shared
+from lib import real, words
+from lib.work import begin
 
 # Game, size, and what the collection's program is told beside the size: its letters for how hard a puzzle is to be.
 KINDS = [
@@ -42,7 +42,7 @@ def main():
     print("|---|---|---|---|---|---|", flush=True)
     makers = collections.Counter()
     for game, size, more in KINDS:
-        found, maker = ids.some(program, game, size, more, count, MAKING_SECONDS)
+        found, maker = real.some(program, game, size, more, count, MAKING_SECONDS)
         if not found:
             continue
         makers[maker] += 1
@@ -53,4 +53,4 @@ def main():
 
 
 if __name__ == "__main__":
-    words.begin(main)
+    begin(main)

@@ -6,7 +6,7 @@
     puzzles solve tents 2x2:_c,0,1,1,0 | sed 1d | ids.py --grid tents 2x2:_c,0,1,1,0 > solution.svg
 
 Two IDs are of one puzzle exactly if their written forms are the same. Without an ID each line of the input is one, and its form
-or its refusal is a line of the output. The program isn't asked: lib/reader.py and lib/writer.py go by docs/FORMATS.md.
+or its refusal is a line of the output. The program isn't asked: puzzles/ids goes by docs/FORMATS.md.
 The status is 0; 2 if words, an ID or a grid are refused; 6 for a fault of reading or writing.
 """
 import argparse

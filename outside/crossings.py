@@ -8,18 +8,16 @@ Prints how many of each grade there were, and what differs; the exit status is 1
 """
 import argparse
 import collections
-import os
 import re
 import subprocess
 import sys
 
+import shared
+from lib import words
+from lib.work import begin
+from puzzles.ids import read
+
 RUN_SECONDS = 120
-
-
-def program(word):
-    if not (os.path.isfile(word) and os.access(word, os.X_OK)):
-        raise argparse.ArgumentTypeError(f"no program that can be run: {word}")
-    return os.path.abspath(word)
 
 
 def size(word):
@@ -132,25 +130,17 @@ def own_grade(c, r, x, givens):
     return "search"
 
 
-def givens_of(description):
-    cells = []
-    for token in re.findall(r"[a-z]|[0-9]+", description):
-        cells += [0] * (ord(token) - 96) if token.isalpha() else [int(token)]
-    return cells
-
-
-def told(words):
+def told(line):
     """What the program answers: its lines and its status; nothing where it takes too long."""
     try:
-        done = subprocess.run(words, capture_output=True, text=True, check=False, timeout=RUN_SECONDS)
+        done = subprocess.run(line, capture_output=True, text=True, check=False, timeout=RUN_SECONDS)
     except subprocess.TimeoutExpired:
         return None
     return done.stdout.split("\n"), done.returncode
 
 
 def main():
-    form = argparse.ArgumentParser(description=__doc__, formatter_class=argparse.RawDescriptionHelpFormatter)
-    form.add_argument("program", metavar="PROGRAM", type=program, help="as `rt run` leaves it: crates/puzzles/out/puzzles")
+    form = words.form(__doc__)
     form.add_argument("size", metavar="SIZE", type=size, nargs="?", default="3x3", help="of Solo or Solo X (3x3)")
     form.add_argument("seeds", metavar="SEEDS", type=int, nargs="?", default=50, help="how many (50)")
     asked = form.parse_args()
@@ -165,7 +155,7 @@ def main():
             passed += 1
             continue
         puzzle, grade = made[0][0], graded[0][0]
-        own = own_grade(c, r, asked.size.endswith("x"), givens_of(puzzle.split(":")[1]))
+        own = own_grade(c, r, asked.size.endswith("x"), [int(cell or 0) for cell in read("solo", puzzle).cells])
         counts[own] += 1
         if grade.split(" ")[0] != own:
             faults += 1
@@ -176,4 +166,4 @@ def main():
 
 
 if __name__ == "__main__":
-    main()
+    begin(main)

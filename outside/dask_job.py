@@ -15,122 +15,23 @@ It needs Debian's python3-distributed (`apt-get install python3-distributed`). P
 
 Each wait has an end. The exit status is 1 if a case fails.
 """
-import contextlib
 import os
-import pathlib
 import random
-import shlex
 import shutil
 import signal
-import socket
 import subprocess
 import sys
 import tempfile
 import time
 
-TOP = pathlib.Path(__file__).resolve().parent.parent
-JOB = TOP / "examples" / "dask" / "job.py"
-START_SECONDS = 120  # for a scheduler or a worker
-JOB_SECONDS = 600  # for a job
+import shared
+from lib.composed import pattern
+from lib.dask import JOB_SECONDS, Bench, cluster, free_port, has_dask
+from lib.trial import Wrong, ended, expect, wait_until
+from lib.work import begin
+
 LINES = 100_000
 SIDE = 6
-
-
-class Wrong(Exception):
-    """What a case found."""
-
-
-def expect(stands, words):
-    if not stands:
-        raise Wrong(words)
-
-
-def wait_until(is_so, seconds, words):
-    end = time.monotonic() + seconds
-    while not is_so():
-        expect(time.monotonic() < end, f"no end within {seconds} seconds: {words}")
-        time.sleep(0.05)
-
-
-class Bench:
-    """A folder with the program as `puzzles`, stand-ins for it, and what a case starts."""
-
-    def __init__(self, program, python, folder):
-        self.python, self.folder = python, pathlib.Path(folder)
-        self.bin = self.folder / "bin"
-        self.bin.mkdir()
-        shutil.copy(program, self.bin / "puzzles")
-        self.environment = {**os.environ, "PATH": f"{self.bin}:{os.environ['PATH']}", "HOME": str(self.folder)}
-
-    def stand_in(self, name, text):
-        """A shell script beside the program, which the workers find by this name."""
-        path = self.bin / name
-        path.write_text(f"#!/bin/sh\nfolder={shlex.quote(str(self.folder))}\n{text}")
-        path.chmod(0o755)
-        return name
-
-    def file(self, lines):
-        path = self.folder / "lines.txt"
-        path.write_text("".join(f"{line}\n" for line in lines))
-        return path
-
-    def plain(self, words, given=b""):
-        """The bytes and the status of one process."""
-        done = subprocess.run([self.bin / "puzzles", *words], input=given, capture_output=True, timeout=JOB_SECONDS, check=False)
-        return done.stdout, done.returncode
-
-    def start(self, words, log):
-        with open(self.folder / log, "wb") as out:
-            return subprocess.Popen(words, stdin=subprocess.DEVNULL, stdout=out, stderr=out, cwd=self.folder,
-                                    env=self.environment, start_new_session=True)
-
-    def command(self, address, path, words, options=()):
-        return [self.python, JOB, *map(str, options), address, path, *words]
-
-    def job(self, address, path, words, options=()):
-        """What a job writes to both ends, and its status."""
-        done = subprocess.run(self.command(address, path, words, options), capture_output=True, timeout=JOB_SECONDS,
-                              stdin=subprocess.DEVNULL, env=self.environment, check=False)
-        return done.stdout, done.returncode, done.stderr.decode()
-
-
-def ended(process):
-    """Ends a process that this script started, with all that it started in turn."""
-    with contextlib.suppress(ProcessLookupError):
-        os.killpg(process.pid, signal.SIGKILL)
-    process.wait(timeout=START_SECONDS)
-
-
-def free_port():
-    with socket.socket() as probe:
-        probe.bind(("127.0.0.1", 0))
-        return probe.getsockname()[1]
-
-
-@contextlib.contextmanager
-def cluster(bench, workers, nannies=False):
-    """The address of a scheduler, the workers that have joined it, and itself. A nanny begins a lost worker anew."""
-    address, started = f"tcp://127.0.0.1:{free_port()}", []
-    dask = [bench.python, "-m", "dask"]
-    try:
-        host, port = address.removeprefix("tcp://").split(":")
-        started.append(bench.start([*dask, "scheduler", "--host", host, "--port", port, "--no-dashboard"], "scheduler.log"))
-        words = [*dask, "worker", address, "--nthreads", "1", "--no-dashboard", "--memory-limit", "0",
-                 "--death-timeout", str(START_SECONDS), "--local-directory", str(bench.folder / "workers")]
-        for number in range(workers):
-            started.append(bench.start([*words, "--nanny" if nannies else "--no-nanny"], f"worker{number}.log"))
-        for number in range(workers):
-            log = bench.folder / f"worker{number}.log"
-            wait_until(lambda log=log: b"Registered to" in log.read_bytes(), START_SECONDS, f"worker {number} did not join")
-        yield address, started[1:], started[0]
-    finally:
-        for process in started:
-            ended(process)
-
-
-def runs(cells):
-    """The clue of a line of Pattern."""
-    return ".".join(str(len(run)) for run in "".join("#" if cell else "." for cell in cells).split(".") if run)
 
 
 def patterns(count):
@@ -138,8 +39,7 @@ def patterns(count):
     draws, lines = random.Random(1), []
     for number in range(count):
         rows = [[draws.random() < 0.55 for _ in range(SIDE)] for _ in range(SIDE)]
-        text = f"{SIDE}x{SIDE}:" + "/".join(runs(cells) for cells in [*zip(*rows), *rows])
-        lines.append(text if number % 997 else f"no puzzle {number}")
+        lines.append(pattern(rows) if number % 997 else f"no puzzle {number}")
     return lines
 
 
@@ -253,15 +153,6 @@ def lost_scheduler(bench):
         expect((output, job.returncode) == (b"", 7) and b"lines 1 to 1:" in errors, f"status {job.returncode}: {errors.decode()}")
 
 
-def has_dask(python):
-    """Whether this Python has a scheduler and workers."""
-    try:
-        done = subprocess.run([python, "-c", "import distributed"], capture_output=True, check=False, timeout=START_SECONDS)
-    except OSError:
-        return False
-    return done.returncode == 0
-
-
 def main():
     if sys.argv[1:] in (["--help"], ["-h"]):
         print(__doc__.strip())
@@ -293,4 +184,4 @@ def main():
 
 
 if __name__ == "__main__":
-    sys.exit(main())
+    begin(main)

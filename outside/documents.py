@@ -22,10 +22,7 @@ import re
 import subprocess
 import sys
 
-sys.dont_write_bytecode = True
-sys.path.append(str(pathlib.Path(__file__).resolve().parent.parent / "bench"))
-import fifth_game  # noqa: E402
-import tables  # noqa: E402
+import fifth_game
 
 TOP = pathlib.Path(__file__).resolve().parent.parent
 COLUMNS, WORDS = 130, 25
@@ -157,9 +154,9 @@ def numbers():
     there = len([*TOP.glob("crates/*/must-fail/*.edit")])
     if told != [str(there)]:
         yield f"README.md: {' and '.join(told) or 'no number of'} wrong bodies; there are {there}"
-    changes = tables.CHANGES.read_text()
-    if changes != tables.with_minutes(changes, tables.FIGURES.read_text()):
-        yield "docs/CONTRIBUTING.md: minutes that aren't the sums of the gate's table: bench/tables.py --gate LOG writes them"
+    done = subprocess.run([TOP / "bench" / "tables.py", "--check"], capture_output=True, text=True, timeout=HELP_SECONDS, check=False)
+    if done.returncode:
+        yield (done.stdout + done.stderr).strip()
     yield from fifth_game.faults()
 
 

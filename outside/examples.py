@@ -1,10 +1,10 @@
 #!/usr/bin/env python3
 """Tries what is in examples/, docs/puzzles.1 and completions/, as a publisher, a collector and a reader at a shell would.
 
-usage: outside/examples.py [--lines N] PROGRAM [CASE..]     PROGRAM as `rt run` leaves it: crates/puzzles/out/puzzles
+usage: outside/examples.py [--lines N] [--library FILE] PROGRAM [CASE..]
 
-Each case says what it shows. Without names all run: ids.documented, .., words.completions. The last one has Dask grade N lines,
-100,000 unless it is said.
+PROGRAM is as `rt run` leaves it: crates/puzzles/out/puzzles. Each case says what it shows. Without names all run. Two come last:
+collections are graded by the library in FILE, library/out/libpuzzles.so unless it is said, and by Dask, N lines (20,000).
 It needs Debian's chromium, fonts-dejavu-core, poppler-utils, python3-pil, python3-distributed, sqlite3, mandoc, man-db,
 bash-completion, zsh and fish. A full disk is tried where this user may mount one. Each wait has an end.
 The exit status is 1 if a case fails.
@@ -12,29 +12,22 @@ The exit status is 1 if a case fails.
 import argparse
 import pathlib
 import shutil
+import signal
 import sqlite3
 import subprocess
-import sys
 import tempfile
 import time
 
-sys.dont_write_bytecode = True
-import examples_book  # noqa: E402
-import examples_collect  # noqa: E402
-import examples_drawing  # noqa: E402
-import examples_formats  # noqa: E402
-import examples_ids  # noqa: E402
-import examples_kin  # noqa: E402
-import examples_print  # noqa: E402
-import examples_python  # noqa: E402
-import examples_words  # noqa: E402
-from examples_bench import Bench, Wrong  # noqa: E402
+import shared
+from examples import book, collect, drawing, formats, ids, kin, printer, python, words
+from examples.bench import TOP, Bench
+from lib.trial import Wrong
+from lib.work import begin
 
 TOOLS = ("chromium", "pdftotext", "pdftoppm", "pdfinfo", "pdftohtml", "sqlite3", "mandoc", "man", "zsh", "fish", "ps",
          "/usr/bin/python3")
-PARTS = {"ids": examples_ids, "python": examples_python, "formats": examples_formats, "drawing": examples_drawing,
-         "book": examples_book, "print": examples_print, "collect": examples_collect, "kin": examples_kin,
-         "words": examples_words}
+PARTS = {"ids": ids, "python": python, "formats": formats, "drawing": drawing, "book": book, "print": printer, "collect": collect,
+         "kin": kin, "words": words}
 
 
 def tried(program, case, *more):
@@ -49,7 +42,8 @@ def tried(program, case, *more):
 
 def main():
     form = argparse.ArgumentParser(description=__doc__, formatter_class=argparse.RawDescriptionHelpFormatter)
-    form.add_argument("--lines", type=int, default=100_000)
+    form.add_argument("--lines", type=int, default=20_000)
+    form.add_argument("--library", type=pathlib.Path, default=TOP / "library" / "out" / "libpuzzles.so")
     form.add_argument("program", type=pathlib.Path)
     form.add_argument("cases", nargs="*")
     asked = form.parse_args()
@@ -57,10 +51,12 @@ def main():
     if missing:
         form.error(f"needed and not found: {', '.join(missing)}")
     cases = {f"{part}.{case.__name__}": (case,) for part, module in PARTS.items() for case in module.CASES}
-    cases["collect.on_many_machines"] = (examples_collect.on_many_machines, asked.lines)
+    cases["collect.by_library"] = (collect.by_library, asked.library.resolve())
+    cases["collect.on_many_machines"] = (collect.on_many_machines, asked.lines)
     chosen = asked.cases or list(cases)
     if not set(chosen) <= set(cases):
         form.error(f"the cases are {', '.join(cases)}")
+    signal.signal(signal.SIGINT, signal.default_int_handler)  # else what it starts ignores Ctrl-C where a shell put it behind
     failed = 0
     for name in chosen:
         start = time.monotonic()
@@ -72,4 +68,4 @@ def main():
 
 
 if __name__ == "__main__":
-    sys.exit(main())
+    begin(main)

@@ -21,10 +21,9 @@ import subprocess
 import sys
 import time
 
-sys.dont_write_bytecode = True
-from package_elf import Elf  # noqa: E402
-from package_files import File, deb, squeezed, tar, wheel  # noqa: E402
-import package_texts as texts  # noqa: E402
+from package_elf import Elf
+from package_files import File, deb, squeezed, tar, wheel
+import package_texts as texts
 
 TOP = pathlib.Path(__file__).resolve().parent.parent
 MACHINES = {62: ("amd64", "x86_64"), 183: ("arm64", "aarch64")}  # as Debian and as Linux name them

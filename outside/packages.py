@@ -22,8 +22,10 @@ import time
 import urllib.error
 import urllib.request
 
-sys.dont_write_bytecode = True
-from examples_bench import DEBIAN, SECONDS, TOP, Bench, Wrong, ended, expect, wait_until  # noqa: E402
+import shared
+from examples.bench import DEBIAN, TOP, Bench
+from lib.trial import Wrong, ended, expect, wait_until
+from lib.work import begin
 
 TOOLS = ("git", "dpkg", "dpkg-deb", "man", "lintian", "desktop-file-validate")
 PORT = 8031
@@ -247,4 +249,4 @@ def main():
 
 
 if __name__ == "__main__":
-    sys.exit(main())
+    begin(main)

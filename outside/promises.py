@@ -30,8 +30,7 @@ import re
 import signal
 import sys
 
-sys.dont_write_bytecode = True
-from contracts import (TOP, crates, defined, functions, ghosts, imports, is_member, is_private,  # noqa: E402
+from contracts import (TOP, crates, defined, functions, ghosts, imports, is_member, is_private,
                        names, public_calls, public_clauses)
 
 MOST_BODIES = 3

@@ -3,68 +3,19 @@
 
 Each run of the program must answer as it does with ample memory, or end with status 5 after a beginning of that answer
 and with nothing on standard error. Each test must pass, or end with want of memory as its result and nothing else.
-The shim below stands between a program and the C library; it is compiled with cc.
+The allocator of lib/allocator.py stands between a program and the C library; it is compiled with cc.
 """
 import argparse
-import os
-import pathlib
 import subprocess
 import sys
 import tempfile
 
+import shared
+from lib.allocator import Allocator
+from lib.words import program
+from lib.work import begin
+
 RUN_SECONDS = 120
-
-SHIM = r"""
-#define _GNU_SOURCE
-#include <dlfcn.h>
-#include <stdlib.h>
-#include <unistd.h>
-
-static long count, refused;
-static int told;
-
-static int refuses(void) {
-    if (!told) {
-        const char *text = getenv("REFUSED");
-        refused = text ? atol(text) : 0;
-        told = 1;
-    }
-    return ++count == refused;
-}
-
-void *malloc(size_t size) {
-    static void *(*real)(size_t);
-    if (!real) real = dlsym(RTLD_NEXT, "malloc");
-    return refuses() ? 0 : real(size);
-}
-
-void *realloc(void *old, size_t size) {
-    static void *(*real)(void *, size_t);
-    if (!real) real = dlsym(RTLD_NEXT, "realloc");
-    return refuses() ? 0 : real(old, size);
-}
-
-int posix_memalign(void **block, size_t align, size_t size) {
-    static int (*real)(void **, size_t, size_t);
-    if (!real) real = dlsym(RTLD_NEXT, "posix_memalign");
-    return refuses() ? 12 : real(block, align, size);
-}
-
-__attribute__((destructor)) static void tell(void) {
-    const char *name = getenv("COUNTED");
-    if (!name) return;
-    char digits[24];
-    int at = 24;
-    long left = count;
-    do digits[--at] = '0' + left % 10; while (left /= 10);
-    FILE_WRITE
-}
-"""
-WRITE = """
-    extern int open(const char *, int, ...);
-    int file = open(name, 01 | 0100 | 01000, 0600);
-    if (file >= 0) { ssize_t done = write(file, digits + at, 24 - at); (void)done; close(file); }
-"""
 
 SOLO = "1 2 3 4\n3 4 1 2\n2 1 4 3\n4 3 2 1\n"
 TWO_SOLOS = "several\n" + SOLO + "\n1 2 3 4\n3 4 1 2\n2 3 4 1\n4 1 2 3\n"
@@ -122,16 +73,10 @@ RUNS = [
     ("generate solo 2x2 --seed 1 --tries 0", "", "exhausted\n", 4),
     ("generate solo 2x2 --seed 1", "", None, 0),
     ("generate solo 2x2x --seed 1", "", None, 0),
-    ("generate solo 2x2x --seed 1 --budget 0", "", "exhausted\n", 4),
+    ("generate solo 2x2x --seed 1 --budget 0 --tries 5", "", "exhausted\n", 4),
     ("generate tents 4x4 --seed 1", "", None, 0),
     ("generate tents 3x3 --seed 1", "", "refused: size range\n", 2),
 ]
-
-
-def program(word):
-    if not (os.path.isfile(word) and os.access(word, os.X_OK)):
-        raise argparse.ArgumentTypeError(f"no program that can be run: {word}")
-    return os.path.abspath(word)
 
 
 def run(words, given, environment):
@@ -139,12 +84,12 @@ def run(words, given, environment):
     return done.stdout.decode(), done.returncode, done.stderr.decode()
 
 
-def refusals(words, given, shim, counted):
+def refusals(words, given, allocator):
     """The number of each growth with what came where it was refused, and what comes with ample memory; 0 for that run."""
-    ample = run(words, given, {"LD_PRELOAD": str(shim), "COUNTED": str(counted)})
+    ample = run(words, given, allocator.counting())
     yield 0, ample, ample
-    for number in range(1, int(counted.read_text()) + 1):
-        yield number, run(words, given, {"LD_PRELOAD": str(shim), "REFUSED": str(number)}), ample
+    for number in range(1, allocator.count()[0] + 1):
+        yield number, run(words, given, allocator.refusing(number)), ample
 
 
 def is_right_run(number, found, ample, text, status):
@@ -199,19 +144,14 @@ def main():
     if len(asked.programs) > 1 and not asked.tests:
         form.error("one program, or tests by --tests")
     with tempfile.TemporaryDirectory() as folder:
-        source, shim, counted = [pathlib.Path(folder) / name for name in ("shim.c", "shim.so", "count")]
-        source.write_text(SHIM.replace("FILE_WRITE", WRITE))
-        passed = failed = 0
-        try:
-            subprocess.run(["cc", "-shared", "-fPIC", "-o", shim, source, "-ldl"], check=True, timeout=RUN_SECONDS)
-            for name, words, given, is_right in jobs(asked.programs, asked.tests, asked.only):
-                right, wrong = count(refusals(words, given, shim, counted), is_right, name)
-                passed, failed = passed + right, failed + wrong
-        except (OSError, subprocess.SubprocessError) as fault:
-            sys.exit(f"refuse_growths.py: {fault}")
+        passed, failed, allocator = 0, 0, Allocator(folder)
+        for name, words, given, is_right in jobs(asked.programs, asked.tests, asked.only):
+            right, wrong = count(refusals(words, given, allocator), is_right, name)
+            print(f"{name}: {right + wrong:,} runs", file=sys.stderr, flush=True)
+            passed, failed = passed + right, failed + wrong
     print(f"{passed} passed, {failed} failed")
-    sys.exit(1 if failed or not passed else 0)
+    return 1 if failed or not passed else 0
 
 
 if __name__ == "__main__":
-    main()
+    begin(main)

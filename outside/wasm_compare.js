@@ -3,6 +3,8 @@ import { Puzzles } from "./puzzles.js";
 
 const CALLED = { solve_each: "solveEach" }, PAINT = 0xa5, TRIED = ["pattern", "5x1:1/1//1/1/2.2"], TOLD = "one\n##.##\n";
 const WILD = 0xfffffff0n; // an address beyond the memory
+const SOME = 500; // calls whose stack is looked at
+const TIMES = 20; // that a thing is timed, last of all: at first a browser has much else to do
 const Real = WebAssembly.Instance;
 const bytes = (text) => Uint8Array.from(text, (sign) => sign.charCodeAt(0));
 
@@ -26,14 +28,19 @@ function differing(puzzles, cases) {
     .map(([asked, { status, text }]) => `${asked.call} ${asked.game} ${asked.text.slice(0, 60)}: ${status} ${text.slice(0, 60)}`);
 }
 
-// Microseconds of each solve, pass by pass.
-function passes(puzzles, cases) {
+// Milliseconds of the processor that some turns of an act take, each.
+async function cost(spent, act) {
+  const before = await spent();
+  for (let k = 0; k < TIMES; k += 1) await act();
+  return (await spent() - before) / TIMES;
+}
+
+// Microseconds of a solve, after a first pass.
+async function solveCost(spent, puzzles, cases) {
   const solves = cases.filter(({ call, status }) => call === "solve" && status !== 2);
-  return [1, 2, 3].map(() => {
-    const begun = performance.now();
-    for (const asked of solves) answer(puzzles, asked);
-    return ((performance.now() - begun) * 1000) / solves.length;
-  });
+  const pass = () => solves.forEach((asked) => answer(puzzles, asked));
+  pass();
+  return (await cost(spent, pass)) * 1000 / solves.length;
 }
 
 // The most bytes of its stack, which lies before all else, that a call uses.
@@ -87,13 +94,15 @@ async function refused(puzzles) {
     said.every((text) => text.startsWith("puzzles.wasm can't be loaded: "))];
 }
 
-// What `wasm.py` wants to know. `source` gives the module, as `Puzzles.load` takes it.
-export async function tried(source, { cases, stack }) {
-  const begun = performance.now(), puzzles = await Puzzles.load(source()), load = () => Puzzles.load(source());
-  const start = performance.now() - begun, each = passes(puzzles, cases);
+// What `wasm.py` wants to know. `source` gives the module, as `Puzzles.load` takes it, and `spent` the milliseconds of the
+// processor that were taken so far.
+export async function tried(source, spent, { cases, stack }) {
+  const load = () => Puzzles.load(source()), puzzles = await load();
+  const some = cases.filter((_, k) => k % Math.ceil(cases.length / SOME) === 0);
   return {
-    start, passes: each, count: cases.length, differing: differing(puzzles, cases),
-    stack: stackUsed(puzzles, cases.slice(0, 500), stack), memory: last.memory.buffer.byteLength, full: [fullStatus(puzzles), isWell(puzzles)], broken: await broken(load),
-    refused: await refused(await load()),
+    count: cases.length, differing: differing(puzzles, cases),
+    stack: stackUsed(puzzles, some, stack), memory: last.memory.buffer.byteLength,
+    full: [fullStatus(puzzles), isWell(puzzles)], broken: await broken(load), refused: await refused(await load()),
+    start: await cost(spent, load), solve: await solveCost(spent, await load(), cases),
   };
 }

@@ -7,8 +7,9 @@
     book.py --after first.csv second.pdf                    none of the puzzles of the first book
 
 A chapter is GAME:SIZE:LEVEL:COUNT, or GAME:@FILE for the IDs of a file's lines or of an older book's table. Games are solo,
-pattern, lightup and tents; levels easy, medium, hard and any, and of solo also houses and crossings, which need no guess. Each
-puzzle has one solution, which is proved. The same words make the same bytes, with the same program, browser and fonts.
+pattern, lightup and tents. Levels are easy, medium and hard, as on the page, and any; without a guess also houses and crossings
+of solo, and long of the others. Each puzzle has one solution, which is proved.
+The same words make the same bytes, with the same program, browser and fonts.
 What was made is kept in BOOK.pdf.part until the book is there, so a run that was stopped goes on by the same words.
 It needs Debian's chromium and fonts-dejavu-core.
 Statuses: 0; 2 words refused; 6 a fault of reading or writing; 7 a program isn't there or fails, or too few puzzles; 130 stopped.
@@ -16,23 +17,22 @@ Statuses: 0; 2 words refused; 6 a fault of reading or writing; 7 a program isn't
 import argparse
 import html
 import pathlib
-import sys
 
-sys.path.insert(0, str(pathlib.Path(__file__).resolve().parent.parent))
-import pages  # noqa: E402
-from chapters import chapter  # noqa: E402
-from journal import Journal  # noqa: E402
-from layout import PAPERS, Sheet, check  # noqa: E402
-from lib.files import replace  # noqa: E402
-from lib.work import REFUSED, Bar, Fault, Program, begin  # noqa: E402
-from making import Maker, fill  # noqa: E402
-from outputs import Entry, check_table, drawings, last_seed, table  # noqa: E402
-from pdf import print_pdf  # noqa: E402
-from puzzles.ids import empty, read  # noqa: E402
-from texts import load  # noqa: E402
+import shared
+import pages
+from chapters import chapter
+from journal import Journal
+from layout import PAPERS, Sheet, check
+from lib.files import replace
+from lib.work import REFUSED, Bar, Fault, Program, begin
+from making import Maker, fill
+from outputs import Entry, check_table, drawings, last_seed, table
+from pdf import print_pdf
+from puzzles.ids import empty, read
+from texts import load
 
-DEFAULT = ["solo:3x3:easy:18", "solo:3x3:medium:12", "solo:3x3:hard:12", "pattern:10x10:easy:8", "pattern:15x15:medium:6",
-           "pattern:20x20:medium:4", "lightup:7x7:easy:6", "lightup:10x10:medium:6", "lightup:10x10:hard:6", "tents:8x8:easy:6",
+DEFAULT = ["solo:3x3:easy:18", "solo:3x3:medium:12", "solo:3x3:hard:12", "pattern:10x10:easy:8", "pattern:15x15:long:6",
+           "pattern:20x20:long:4", "lightup:7x7:easy:6", "lightup:10x10:medium:6", "lightup:10x10:hard:6", "tents:8x8:easy:6",
            "tents:10x10:medium:8", "tents:10x10:hard:8"]
 MOST_GUTTER, MOST_TITLE, MOST_MULTIPLE, MOST_FRONT = 30, 200, 64, 20_000_000
 

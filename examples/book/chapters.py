@@ -3,16 +3,13 @@ import argparse
 import dataclasses
 import pathlib
 
+from levels import LEVELS, OF_OTHERS, OF_SOLO
 from lib.work import Fault
 from outputs import rows_of
 from puzzles.ids import GAMES, Refused, empty, lines, read, read_grid, written
 
 MOST_PUZZLES = 5000
-MOST_TRIALS = 20  # of a hard puzzle
 MOST_EASY_BY_SEED = 9  # cells a side
-RULE_SETS = {"solo": ("singles", "houses", "crossings"), "pattern": ("lines",), "lightup": ("local",), "tents": ("local",)}
-LEVELS = ("easy", "houses", "crossings", "medium", "hard", "any")
-SOLO_LEVELS = ("houses", "crossings")
 
 
 @dataclasses.dataclass(frozen=True)
@@ -24,27 +21,13 @@ class Chapter:
     count: int
     ids: tuple = ()
 
-    def budget(self):
-        """Trials for a test whether a clue may go: without any the puzzle needs none either. The search goes by `houses`."""
-        return 0 if self.level in ("easy", "houses", "medium") else MOST_TRIALS
-
     def is_large_and_easy(self):
         """Whether seeds seldom give a Solo of this level, since `generate` takes clues away as long as sets do for the rest."""
         return self.game == "solo" and self.level == "easy" and empty(self.game, self.size).width > MOST_EASY_BY_SEED
 
-    def takes(self, grade):
-        """Whether a puzzle of this grade may be of the chapter's level."""
-        word, _, trials = grade.partition(" ")
-        if word == "search":
-            return self.level == "any" or self.level == "hard" and 1 < int(trials) <= MOST_TRIALS
-        if self.level in SOLO_LEVELS:
-            return word == self.level
-        levels = ("easy", "any") if word == "singles" else ("medium", "any") if self.game == "solo" else ("easy", "medium", "any")
-        return word in RULE_SETS[self.game] and self.level in levels
-
     def is_by_effort(self):
         """Whether the level is a half of more puzzles: games with one rule set have no other measure."""
-        return self.game != "solo" and self.level in ("easy", "medium")
+        return self.level in OF_OTHERS
 
     def needed(self):
         """How many puzzles have to be made."""
@@ -53,8 +36,7 @@ class Chapter:
     def chosen(self, made):
         """The puzzles of the chapter, of those that had to be made."""
         if self.is_by_effort():
-            sign = 1 if self.level == "easy" else -1
-            made = sorted(sorted(made, key=lambda one: (sign * one.effort, one.seed))[:self.count], key=lambda one: one.seed)
+            made = sorted(sorted(made, key=lambda one: (-one.effort, one.seed))[:self.count], key=lambda one: one.seed)
         return made
 
 
@@ -122,6 +104,6 @@ def chapter(word):
         raise argparse.ArgumentTypeError(f"{word}: the size {size} is refused: {fault}") from None
     if game == "tents" and min(puzzle.width, puzzle.height) < 4:
         raise argparse.ArgumentTypeError(f"{word}: Tents are made of 4x4 at least")
-    if level in SOLO_LEVELS and game != "solo":
-        raise argparse.ArgumentTypeError(f"{word}: {level} is a level of Solo alone")
+    if level in (OF_OTHERS if game == "solo" else OF_SOLO):
+        raise argparse.ArgumentTypeError(f"{word}: {level} is no level of {game}")
     return Chapter(game, puzzle.size, level, int(count))

@@ -19,12 +19,12 @@ import itertools
 import pathlib
 import sys
 
-sys.path.insert(0, str(pathlib.Path(__file__).resolve().parent.parent))
-from lib.files import replace  # noqa: E402
-from lib.work import REFUSED, Fault, Program, begin  # noqa: E402
-from mending import Judge, mended  # noqa: E402
-from pixels import pixels  # noqa: E402
-from puzzles.ids import MOST_SIDE, Puzzle, svg, written  # noqa: E402
+import shared
+from lib.files import replace
+from lib.work import Program, begin
+from mending import Judge, mended
+from pixels import pixels
+from puzzles.ids import MOST_SIDE, Puzzle, svg, written
 
 SEVERAL, GAVE_UP = 3, 4
 MOST_CHANGES = 1000

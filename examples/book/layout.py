@@ -74,17 +74,20 @@ def check(sheet, puzzle):
 
 
 def places(sheet, puzzles, ids):
-    """The most puzzles on a page that leave cells to write in."""
-    game = puzzles[0].game
+    """Where puzzles stand: on the fewest pages that leave cells to write in, and on these as few on each and as large as may be."""
+    game, found, fewest = puzzles[0].game, None, 0
     widest, tallest = (max(getattr(Room(puzzle, False), side) for puzzle in puzzles) for side in ("width", "height"))
     for across, down in GRIDS[-1:] if sheet.is_large else GRIDS:
-        column = (sheet.width + GAP) / across - GAP
+        column, pages = (sheet.width + GAP) / across - GAP, math.ceil(len(puzzles) / (across * down))
         id_lines = 0 if sheet.is_bare else math.ceil(max(map(len, ids)) * ID_WIDTH / (column * ID_SHARE))
         room = sheet.height / down - LABEL - CAPTION - ID_HEIGHT * id_lines
         cell = min(sheet.largest_cell, column / widest, room / tallest)
-        if cell >= COMFORT[game] or across == down == 1 and cell >= LEAST_CELL:
-            return Places(across, down, cell, room - cell * tallest)
-    raise Fault(f"a puzzle of {game} {puzzles[0].size} doesn't fit the paper: its cells would be {cell:.1f} mm wide", REFUSED)
+        least = LEAST_CELL if across == down == 1 else COMFORT[game]
+        if cell >= least and (not found or pages == fewest and cell >= found.cell):
+            found, fewest = Places(across, down, cell, room - cell * tallest), pages
+    if not found:
+        raise Fault(f"a puzzle of {game} {puzzles[0].size} doesn't fit the paper: its cells would be {cell:.1f} mm wide", REFUSED)
+    return found
 
 
 def solved_cell(sheet, puzzle):

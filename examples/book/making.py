@@ -6,6 +6,7 @@ import functools
 import itertools
 import os
 
+import levels
 from chapters import Made
 from lib.effort import effort
 from lib.work import REFUSED, Fault
@@ -41,7 +42,7 @@ class Maker:
 
     def made(self, asked, seed):
         ask, is_crossed = self.program.ask, asked.size.endswith("x")
-        budget = CROSSED_TRIALS if is_crossed else asked.budget()
+        budget = CROSSED_TRIALS if is_crossed else levels.budget(asked.level, asked.game)
         lines = ask("generate", f"--budget={budget}", f"--seed={seed}", "--", asked.game, asked.size)
         if lines[0] == "exhausted":
             return None
@@ -55,7 +56,7 @@ class Maker:
 
     def test(self, asked):
         """Tells of an ID of Solo, from which clues were taken, whether they may go."""
-        words, wanted = ("solve", f"--budget={asked.budget()}"), "one"
+        words, wanted = ("solve", f"--budget={levels.budget(asked.level, asked.game)}"), "one"
         if asked.is_large_and_easy():
             words, wanted = ("grade", "--budget=0"), "singles"
         return lambda text: self.program.ask(*words, "--", "solo", text)[0] == wanted
@@ -115,7 +116,7 @@ def fill_one(asked, made, tell):
     with contextlib.closing(made):
         for tried, (seed, one) in enumerate(made, 1):
             is_barren = is_barren and not one
-            taken += [one] if one and asked.takes(one.grade) else []
+            taken += [one] if one and levels.takes(asked.level, asked.game, one.grade) else []
             tell(asked.count * len(taken) // wanted, seed)
             if len(taken) == wanted:
                 return asked.chosen(taken)

@@ -57,8 +57,8 @@ class Book:
     def name(self, puzzle):
         return self.texts["names"]["solo x" if puzzle.is_crossed else puzzle.game]
 
-    def drawing(self, puzzle, cells, cell, caption, below=""):
-        drawn = svg(puzzle, cells, cell, name=f"{html.unescape(self.name(puzzle))} {puzzle.size}")
+    def drawing(self, puzzle, cells, cell, caption, below="", is_small=True):
+        drawn = svg(puzzle, cells, cell, name=f"{html.unescape(self.name(puzzle))} {puzzle.size}", is_small=is_small)
         return f"<figure><figcaption>{caption}</figcaption>{drawn}{below}</figure>"
 
 
@@ -85,7 +85,8 @@ def add_rules(book, game, solve):
     texts, puzzle = book.texts, read(game, EXAMPLES[game])
     solved, cell = read_grid(puzzle, solve(game, EXAMPLES[game])), min(9, 45 / puzzle.width)
     head = book.head(how(texts, game), texts["other names"][game])
-    drawn = book.drawing(puzzle, None, cell, texts["the puzzle"]) + book.drawing(puzzle, solved, cell, texts["its solution"])
+    drawn = "".join(book.drawing(puzzle, cells, cell, caption, is_small=False)
+                    for cells, caption in ((None, texts["the puzzle"]), (solved, texts["its solution"])))
     rules = (f"<ol>{''.join(f'<li>{rule}</li>' for rule in texts['rules'][game])}</ol>"
              f"<p class=part>{texts['example']}</p><div class=example>{drawn}</div>")
     begin = f"<p class=part>{texts['how to begin']}</p><p>{texts['beginnings'][game]}</p>"

@@ -22,18 +22,17 @@ import functools
 import itertools
 import multiprocessing
 import os
-import pathlib
 import signal
 import sys
 
-sys.path.insert(0, str(pathlib.Path(__file__).resolve().parent.parent))
-from forms import form  # noqa: E402
-from grading import ID_SECONDS, Grader, Measurer  # noqa: E402
-from lib.effort import effort  # noqa: E402
-from lib.work import REFUSED, Bar, Fault, Program, begin  # noqa: E402
-from listing import print_rows  # noqa: E402
-from puzzles.ids import GAMES, Refused, lines, read, written  # noqa: E402
-from table import NO_GRADES, RULE_SETS, Table  # noqa: E402
+import shared
+from forms import form
+from grading import ID_SECONDS, Grader, Measurer
+from lib.effort import effort
+from lib.work import REFUSED, Bar, Fault, Program, begin
+from listing import print_rows
+from puzzles.ids import GAMES, Refused, lines, read, written
+from table import NO_GRADES, RULE_SETS, Table
 
 STEP = 1000  # lines in a transaction
 TOLD = 10  # refused lines that are told one by one
@@ -91,7 +90,8 @@ def all_done(bar, parts, keep):
 def grade(asked, table):
     """Grades what has no verdict, a part at a time."""
     bar, program = Bar("graded", table.count(asked.game, OPEN)), Program(asked.program, ID_SECONDS)
-    with contextlib.closing(Grader(program, asked.game, asked.budget).answers(table.ids(asked.game, OPEN))) as parts:
+    grader = Grader(program, asked.game, asked.budget, asked.library)
+    with contextlib.closing(grader.answers(table.ids(asked.game, OPEN))) as parts:
         all_done(bar, parts, functools.partial(table.grade, asked.game))
 
 
@@ -148,6 +148,7 @@ def words():
             one.add_argument("--program", default="puzzles", help="where `puzzles` is (puzzles, on the path)")
         if name in ("add", "grade"):
             one.add_argument("--budget", type=int, default=100_000, help="trials for a puzzle (100000)")
+            one.add_argument("--library", metavar="FILE", help="libpuzzles.so, which grades faster: library/build.py so")
         if name == "add":
             one.add_argument("--later", action="store_true", help="don't grade")
             one.add_argument("--source", help="the name of the file in the table (the file as it is written)")

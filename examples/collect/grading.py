@@ -3,29 +3,34 @@
 `solve` takes lines, tens of thousands a second, and `grade` one ID a process. Their answers agree: with the same budget each
 verdict but `one` is the same, and a game's only rule set is the grade exactly where `solve --budget 0` answers `one`. So `grade`
 is asked where those two don't tell. A shell begins processes faster than Python does, so each part of the IDs is a loop of `sh`.
-Written IDs have no byte that a shell or `read` would change.
+Written IDs have no byte that a shell or `read` would change. The library for C grades a part in one process.
 """
 import concurrent.futures
 import itertools
 import os
+import pathlib
+import sys
 
 from lib.work import Fault, Late
 
 LOOP = 'while read -r id; do "$@" "$id" || [ $? -le 4 ] || exit 9; done'
-PART, PART_SECONDS, ID_SECONDS = 100, 30, 60
+BY_LIBRARY = [sys.executable, "-E", "-s", "-S", str(pathlib.Path(__file__).resolve().with_name("by_library.py"))]
+PART, LIBRARY_PART, PART_SECONDS, ID_SECONDS = 100, 500, 30, 60
 AHEAD = 2  # parts for each core that wait
 ONLY_RULE_SETS = {"pattern": "lines", "lightup": "local", "tents": "local"}
 
 
 class Grader:
-    """Grades IDs of a game with a budget."""
+    """Grades IDs of a game with a budget: by the library in a file, if there is one, and else by the program alone."""
 
-    def __init__(self, program, game, budget):
-        self.program, self.game, self.budget = program, game, str(budget)
+    def __init__(self, program, game, budget, library=None):
+        self.program, self.game, self.budget, self.library = program, game, str(budget), library
+        if library and self.run([*BY_LIBRARY, library, "pattern", "0"], ["5x1:1/1//1/1/2.2"]) != ["lines"]:
+            raise Fault(f"no library of puzzles, as library/build.py makes it: {library}")
 
     def answers(self, ids):
         """Parts of the IDs, each with its answer, as they come. One that takes longer than its clock is answered `clock`."""
-        yield from on_all_cores(self.program, self.answer_part, ids)
+        yield from on_all_cores(self.program, self.answer_part, ids, LIBRARY_PART if self.library else PART)
 
     def answer_part(self, part):
         """The answers to a part: of `solve` without a trial where they tell the grade, else of `grade`."""
@@ -47,15 +52,19 @@ class Grader:
         return [grades.get(verdict) for verdict in verdicts]
 
     def graded(self, part):
-        """The answers of one shell; if it fails, of a process for each ID."""
+        """The answers of one shell, or of the library; if that fails, of a process for each ID."""
         words = ["grade", self.game, "--budget", self.budget, "--"]
+        line = ["sh", "-c", LOOP, "sh", self.program.path, *words]
+        found = self.run([*BY_LIBRARY, self.library, self.game, self.budget] if self.library else line, part)
+        return list(zip(part, found or (self.answer_alone([*words, text]) for text in part)))
+
+    def run(self, words, part):
+        """A line for each ID of a part; nothing if the command fails, or takes too long."""
         try:
-            lines, status = self.program.run(["sh", "-c", LOOP, "sh", self.program.path, *words], as_lines(part), PART_SECONDS)
+            lines, status = self.program.run(words, as_lines(part), PART_SECONDS)
         except Late:
-            lines, status = [], None
-        if status == 0 and len(lines) == len(part):
-            return list(zip(part, lines))
-        return [(text, self.answer_alone([*words, text])) for text in part]
+            return []
+        return lines if status == 0 and len(lines) == len(part) else []
 
     def answer_alone(self, words):
         try:
@@ -75,7 +84,7 @@ class Measurer:
 
     def measures(self, ids):
         """Parts of the IDs, each with its effort; None where the clock ends the count."""
-        yield from on_all_cores(self.program, self.measure_part, ids)
+        yield from on_all_cores(self.program, self.measure_part, ids, PART)
 
     def measure_part(self, part):
         return [(text, self.measure(text)) for text in part]
@@ -92,12 +101,12 @@ def as_lines(part):
     return "".join(f"{text}\n" for text in part)
 
 
-def on_all_cores(program, work, ids):
+def on_all_cores(program, work, ids, size):
     """What a function comes to for parts of the IDs, as it comes."""
     waiting, cores = set(), os.cpu_count() or 1
     with concurrent.futures.ThreadPoolExecutor(cores) as pool:
         try:
-            while part := list(itertools.islice(ids, PART)):
+            while part := list(itertools.islice(ids, size)):
                 waiting.add(pool.submit(work, part))
                 if len(waiting) > AHEAD * cores:
                     yield from results(waiting)

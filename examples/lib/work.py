@@ -114,6 +114,8 @@ def begin(main):
         status = told(fault, fault.status)
     except sqlite3.Error as fault:
         status = told(f"the table: {fault}", DISK)
+    except subprocess.SubprocessError as fault:
+        status = told(fault, FAILED)
     except OSError as fault:
         status = told(": ".join(filter(None, [fault.strerror or str(fault), fault.filename and str(fault.filename)])), DISK)
     if status:

@@ -36,16 +36,17 @@ def clue_width(clue):
 
 
 def svg(puzzle: Puzzle, cells: Optional[Sequence[str]] = None, cell: float = 10.0,
-        marked: Collection[int] = (), name: str = "") -> str:
+        marked: Collection[int] = (), name: str = "", is_small: bool = True) -> str:
     """The puzzle as SVG, or one of its grids if the signs of all cells are given.
 
     `cell` is the side of a cell in millimetres. The cells at the places in `marked` have a cross.
-    `name` is what a screen reader says.
+    `name` is what a screen reader says. The numbers of a grid fill its cells, as for small ones, unless
+    `is_small` is false: then they are those of the puzzle.
     """
     room, is_solution = Room(puzzle, cells is not None), cells is not None
     box = f"{-room.left:.2f} {-room.top:.2f} {room.width:.2f} {room.height:.2f}"
     parts = [*ground(puzzle, cells or puzzle.cells), *lines(puzzle),
-             *signs(puzzle, cells or puzzle.cells, number_size(puzzle, is_solution)),
+             *signs(puzzle, cells or puzzle.cells, number_size(puzzle, is_solution and is_small)),
              *([] if is_solution else clues(puzzle)), *crosses(puzzle, marked)]
     return (f'<svg xmlns="http://www.w3.org/2000/svg" width="{room.width * cell:.2f}mm" height="{room.height * cell:.2f}mm" '
             f'viewBox="{box}" role="img" aria-label="{html.escape(name)}" font-family="DejaVu Sans, sans-serif" '

@@ -3,7 +3,9 @@ import random
 import re
 import xml.etree.ElementTree
 
-from examples_bench import EXAMPLES, LETTERS, expect
+from lib.trial import expect
+
+from .bench import EXAMPLES, LETTERS
 
 SIZES = {"solo": ("2x2", "2x3", "3x3", "2x2x", "3x4"), "pattern": ("1x1", "5x5", "10x7", "3x12"),
          "lightup": ("2x2", "7x7", "12x5", "20x9"), "tents": ("4x4", "8x8", "5x13", "12x12")}

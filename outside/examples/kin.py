@@ -7,8 +7,10 @@ import random
 import sqlite3
 import time
 
-from examples_bench import SECONDS, expect, without_progress
-from examples_collect import COLLECT, add, rows, solos
+from lib.trial import expect
+
+from .bench import SECONDS, without_progress
+from .collect import COLLECT, add, rows, solos
 
 SYMMETRIC = {"lightup": ("7x7", "5x9"), "tents": ("8x8", "6x9"), "pattern": ("6x6", "4x7")}
 MOST_MILLISECONDS = 1.0  # for the form of a Solo of 3x3, if nothing else runs

@@ -2,7 +2,9 @@
 import json
 import re
 
-from examples_bench import EXAMPLES, expect
+from lib.trial import expect
+
+from .bench import EXAMPLES
 
 CONVERT = EXAMPLES / "convert.py"
 CELLS = "53..7....6..195....98....6.8...6...34..8.3..17...2...6.6....28....419..5....8..79"

@@ -3,7 +3,9 @@ import re
 import shutil
 
 import documents
-from examples_bench import TOP, expect
+from lib.trial import expect
+
+from .bench import TOP
 
 OPTIONS = {"solve": "--budget", "check": "", "grade": "--budget --trace", "generate": "--seed --budget --tries"}
 # Runs a line in an interactive zsh, with a `compadd` that prints what is offered.

@@ -1,11 +1,14 @@
 """Cases of outside/examples.py: books for the printer, with trim sizes, chosen puzzles, other words and drawings."""
+import collections
 import csv
 import json
 import re
 import xml.etree.ElementTree
 
-from examples_bench import EXAMPLES, SECONDS, expect, wait_until
-from examples_book import BOOK, heights, information, make, pages, squeezed, table, words_of
+from lib.trial import expect, wait_until
+
+from .bench import EXAMPLES, SECONDS
+from .book import BOOK, heights, information, make, pages, squeezed, table, words_of
 
 MILLIMETRE = 72 / 25.4
 TRIMS = {"A4": (210, 297, 15), "letter": (215.9, 279.4, 15), "8x10": (203.2, 254, 14), "6x9": (152.4, 228.6, 12),
@@ -20,7 +23,7 @@ FRONT = "<p>Imprint &amp; ISBN</p><hr><h2>To the reader</h2><p>Take a pencil.</p
 def trims(bench):
     """on five trim sizes all stands inside of the margins, more of them where it is bound, and page numbers stand outside"""
     for paper, (width, height, side) in TRIMS.items():
-        path, _, _ = make(bench, f"{paper}.pdf", "--paper", paper, "--gutter", str(GUTTER), CHAPTERS)
+        path, _, _ = make(bench, f"{paper}.pdf", "--paper", paper, "--gutter", str(GUTTER), "--words", "usual", CHAPTERS)
         known = information(bench, path)
         found = [float(size) / MILLIMETRE for size in re.findall(r"[\d.]+", known["Page size"])[:2]]
         expect(all(abs(there - wanted) < .5 for there, wanted in zip(found, (width, height))), f"{paper}: {known['Page size']}")
@@ -35,8 +38,18 @@ def trims(bench):
             place = numbers[0][3] if page % 2 else numbers[0][1]
             expect(abs(place - (most if page % 2 else least)) < 2, f"{paper}, page {page}: its number stands at {place:.0f} mm")
         texts = squeezed("".join(pages(bench, path)))
-        for rule in ("No two tents touch", "Hard ones have the grade search", "Between two runs"):
+        for rule in ("No two tents touch", "and hard ones more", "Between two runs"):
             expect(squeezed(rule) in texts, f"{paper}: the rules are cut off before {rule}")
+
+
+def filled(bench):
+    """pages of a chapter have as many puzzles each, if it comes to no more pages, and puzzles are as large as there is room"""
+    path, _, rows = make(bench, "filled.pdf", ["tents:10x10:any:8", "lightup:7x7:any:6"])
+    counts = collections.Counter((row["game"], int(row["page"])) for row in rows)
+    expect(sorted(counts.values()) == [4, 4, 6], f"{counts}")
+    page = next(page for game, page in counts if game == "lightup")
+    lowest = max(bottom for _, _, _, _, bottom in words_of(bench, path, page) if bottom < (297 - FOOT) * MILLIMETRE) / MILLIMETRE
+    expect(lowest > 230, f"six Light Up end at {lowest:.0f} mm of A4")
 
 
 def kinds(bench):
@@ -108,9 +121,14 @@ def chosen(bench):
 
 
 def levels(bench):
-    """houses and crossings are levels of Solo, whose puzzles have that grade and no trial"""
-    _, _, rows = make(bench, "levels.pdf", "--words", "usual", ["solo:3x3:houses:3", "solo:3x3:crossings:2"])
-    expect([bench.grade("solo", row["id"]) for row in rows] == ["houses"] * 3 + ["crossings"] * 2, f"{rows}")
+    """houses and crossings are levels of Solo, and long is one of the others, with these grades and no trial; long ones take longer"""
+    chapters = ["solo:3x3:houses:3", "solo:3x3:crossings:2", "pattern:10x10:long:4", "pattern:10x10:easy:4"]
+    _, _, rows = make(bench, "levels.pdf", "--words", "usual", chapters)
+    grades = [bench.grade(row["game"], row["id"]) for row in rows]
+    expect(grades == ["houses"] * 3 + ["crossings"] * 2 + ["lines"] * 8, f"{rows}")
+    lengths = [bench.run([bench.program, "grade", "--trace", "--", "pattern", row["id"]]).stdout.count("\n") for row in rows[5:]]
+    expect(sum(lengths[:4]) > sum(lengths[4:]), f"lines of traces: {lengths}")
+    bench.told([BOOK, bench.folder / "x.pdf", "solo:3x3:long:1"], 2, "long is no level of solo")
 
 
 def said(bench):
@@ -166,4 +184,4 @@ def together(bench):
     expect(list(csv.reader(own.open())) == [["mine", "alone"], ["1", "2"]], "a CSV of one's own is lost")
 
 
-CASES = [trims, kinds, front, chosen, levels, said, drawn, together]
+CASES = [trims, filled, kinds, front, chosen, levels, said, drawn, together]

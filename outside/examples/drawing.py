@@ -5,7 +5,9 @@ import re
 import struct
 import zlib
 
-from examples_bench import DEBIAN, EXAMPLES, expect
+from lib.trial import expect
+
+from .bench import DEBIAN, EXAMPLES
 
 DRAWING = EXAMPLES / "book" / "drawing.py"
 HEART = [".##.##.", "#######", "#######", ".#####.", "..###..", "...#..."]

@@ -2,8 +2,10 @@
 import ast
 import random
 
-from examples_bench import EXAMPLES, LETTERS, expect
-from examples_ids import SIZES, edited, made
+from lib.trial import expect
+
+from .bench import EXAMPLES, LETTERS
+from .ids import SIZES, edited, made
 
 PACKAGE = EXAMPLES / "puzzles"
 OLDEST = (3, 9)

@@ -2,31 +2,40 @@
 import csv
 import io
 import os
+import pathlib
 import random
 import re
 import shutil
 import sqlite3
+import subprocess
+import sys
 import time
 
-import dask_job
-from examples_bench import DEBIAN, EXAMPLES, SECONDS, ended, expect, wait_until, without_progress
+from lib import dask
+from lib.trial import ended, expect, wait_until
+from lib.words import processor_seconds
+from puzzles.ids import read, written
+
+from .bench import DEBIAN, EXAMPLES, SECONDS, without_progress
 
 COLLECT = EXAMPLES / "collect" / "collect.py"
 JOB = EXAMPLES / "dask" / "job.py"
 KILLS = 12
-FAST_LINES, FAST_SECONDS = 10_000, 10
+FAST_LINES, FAST_SECONDS, CORES = 10_000, 10, 4
+LIBRARY_SPEED = 5000  # Solo graded in a second, on so many cores
+OTHERS = .05  # of the processor time that runs had, at most, if nothing else ran beside them
+STALL_SECONDS, TOLD_SECONDS = 600, 10  # without an answer of the job, and between two lines of progress
 ROWS = "SELECT game, id, size, verdict, grade, trials, clues, times, source FROM puzzle ORDER BY 1, 2"
 
 
 def relabelled(draws, text):
     """A Solo of 3x3 as another puzzle that is as hard: other numbers, and rows and bands in another order."""
-    cells = "".join(sign if sign.isdigit() else "." * (ord(sign) - 96) for sign in text.partition(":")[2].replace("_", ""))
-    rows = [cells[at:at + 9] for at in range(0, 81, 9)]
+    puzzle = read("solo", text)
+    rows = [puzzle.cells[at:at + 9] for at in range(0, 81, 9)]
     rows = [rows[3 * band + row] for band in draws.sample(range(3), 3) for row in draws.sample(range(3), 3)]
-    flat = "".join(rows).translate(str.maketrans("123456789", "".join(draws.sample("123456789", 9))))
-    tokens = re.findall(r"\.{1,26}|\d", flat)
-    found = "".join(chr(96 + len(token)) if token[0] == "." else token for token in tokens)
-    return "3x3:" + re.sub(r"(?<=\d)(?=\d)", "_", found)
+    names = dict(zip("123456789", draws.sample("123456789", 9)))
+    puzzle.cells = [names.get(sign, "") for row in rows for sign in row]
+    return written(puzzle)
 
 
 def solos(bench, count):
@@ -185,17 +194,54 @@ def full_disk(bench, texts):
     return ""
 
 
+def seconds_of_all():
+    """The seconds of processor time of all on the machine."""
+    return sum(map(int, pathlib.Path("/proc/stat").read_text().split()[1:4])) / os.sysconf("SC_CLK_TCK")
+
+
+def measured(bench, words):
+    """Of a call, its seconds by the clock, those of the processor, and whether it had the machine for itself."""
+    own, of_all, start = processor_seconds(), seconds_of_all(), time.monotonic()
+    bench.good(words)
+    taken, used, of_others = time.monotonic() - start, processor_seconds() - own, seconds_of_all() - of_all
+    return taken, used, of_others - used < OTHERS * used and (os.cpu_count() or 1) >= CORES
+
+
 def fast(bench):
-    """10,000 Solo are taken in and graded in under 10 seconds on 4 cores, if nothing else runs"""
+    """10,000 Solo are taken in, by one core, and graded, by all, in under 10 seconds on 4 cores that do nothing else"""
     path, table = bench.folder / "ids.txt", bench.folder / "fast.db"
     path.write_text("".join(f"{text}\n" for text in solos(bench, FAST_LINES)))
-    busy, start = os.getloadavg()[0], time.monotonic()
-    add(bench, table, "solo", path)
-    taken = time.monotonic() - start
+    taking = measured(bench, [COLLECT, "add", "--later", table, "solo", path])
+    grading = measured(bench, [COLLECT, "grade", table, "solo"])
     expect(sum(row[3] == "one" for row in rows(table)) == FAST_LINES, "not all have one solution")
-    is_idle = busy < 1 and (os.cpu_count() or 1) >= 4
-    expect(taken < FAST_SECONDS or not is_idle, f"{taken:.1f} s")
-    return f"{taken:.1f} s, with a load of {busy:.1f} at its beginning"
+    told = f"{taking[0]:.1f} and {grading[0]:.1f} s; of the processor {taking[1]:.1f} and {grading[1]:.1f}"
+    expect(taking[1] + grading[1] / CORES < FAST_SECONDS, f"{told}: too much for {CORES} cores")
+    is_idle = taking[2] and grading[2]
+    expect(taking[0] + grading[0] < FAST_SECONDS or not is_idle, told)
+    return told if is_idle else f"{told}, beside other work, so by the processor's alone"
+
+
+def by_library(bench, library):
+    """with the library for C the table is that of the program alone, and what is no library is told"""
+    path, tables = bench.folder / "ids.txt", [bench.folder / "with.db", bench.folder / "without.db"]
+    path.write_text("".join(f"{text}\n" for text in solos(bench, FAST_LINES)))
+    bench.told([COLLECT, "add", "--library", path, tables[0], "solo", path], 7, "no library of puzzles")
+    if not library.exists():
+        return f"NOT TRIED: no {library}, which library/build.py makes"
+    tables[0].unlink()
+    for table in tables:
+        add(bench, table, "solo", path, "--later")
+    bench.good([COLLECT, "grade", tables[1], "solo"])
+    taken, used, is_idle = measured(bench, [COLLECT, "grade", "--library", library, tables[0], "solo"])
+    expect(rows(tables[0]) == rows(tables[1]) and len(rows(tables[0])) == FAST_LINES, "another table than the program's")
+    expect(used < CORES * FAST_LINES / LIBRARY_SPEED, f"{used:.1f} s of the processor: too much for {CORES} cores")
+    expect(taken < FAST_LINES / LIBRARY_SPEED or not is_idle, f"{taken:.1f} s")
+    for game, size in (("pattern", "8x8"), ("lightup", "7x7"), ("tents", "8x8")):
+        path.write_text("".join(f"{bench.generate(game, size, seed)[0]}\n" for seed in range(1, 31)))
+        for table, more in zip(tables, (["--library", library], [])):
+            add(bench, table, game, path, *more)
+        expect(rows(tables[0]) == rows(tables[1]), f"another table of {game}")
+    return f"{FAST_LINES:,} in {taken:.1f} s; of the processor {used:.1f}{'' if is_idle else ', beside other work'}"
 
 
 def queries(bench):
@@ -216,9 +262,29 @@ def queries(bench):
     expect(sum(counts.values()) == 300 and len(counts) == 4, str(counts))
 
 
+def graded_by(bench, words, grades, count):
+    """Runs a job that writes so many lines, and tells how far it is. It may take long, but not without writing."""
+    errors, seen, moved, told = bench.folder / "job.log", 0, time.monotonic(), time.monotonic()
+    with open(grades, "wb") as out, open(errors, "wb") as said:
+        job = subprocess.Popen(words, stdin=subprocess.DEVNULL, stdout=out, stderr=said, cwd=bench.folder,
+                               env=bench.environment, start_new_session=True)
+    try:
+        while job.poll() is None:
+            time.sleep(.1)
+            size, now = grades.stat().st_size, time.monotonic()
+            seen, moved = (size, now) if size > seen else (seen, moved)
+            expect(now < moved + STALL_SECONDS, f"the job wrote nothing for {STALL_SECONDS} seconds, after {seen:,} bytes")
+            if now > told + TOLD_SECONDS:
+                told = now
+                print(f"graded by the job: {grades.read_bytes().count(10):,} of {count:,}", file=sys.stderr, flush=True)
+    finally:
+        ended(job)
+    expect(job.returncode == 0, f"the job's status {job.returncode}: {errors.read_text()[-300:]}")
+
+
 def on_many_machines(bench, count):
     """the Dask job grades what is open, and its answers are taken in: the table is that of a run on one machine"""
-    if not dask_job.has_dask(DEBIAN):
+    if not dask.has_dask(DEBIAN):
         return "NOT TRIED: /usr/bin/python3 has no Dask"
     path, table, new, grades = (bench.folder / name for name in ("ids.txt", "many.db", "new.txt", "grades.txt"))
     texts = solos(bench, count)
@@ -226,13 +292,11 @@ def on_many_machines(bench, count):
     add(bench, table, "solo", path, "--later")
     new.write_text(bench.good([COLLECT, "open", table, "solo"]))
     (bench.folder / "dask").mkdir()
-    cluster = dask_job.Bench(bench.program, DEBIAN, bench.folder / "dask")
+    cluster = dask.Bench(bench.program, DEBIAN, bench.folder / "dask")
     start = time.monotonic()
-    with dask_job.cluster(cluster, 4) as (address, _, _):
-        with open(grades, "wb") as out:
-            done = bench.run([DEBIAN, JOB, "--lines", "500", address, new, "grade", "solo", "--", "{}"], stdout=out, seconds=3600)
+    with dask.cluster(cluster, 4) as (address, _, _):
+        graded_by(bench, [DEBIAN, JOB, "--lines", "250", address, new, "grade", "solo", "--", "{}"], grades, count)
     taken = time.monotonic() - start
-    expect(done.returncode == 0, f"the job's status {done.returncode}: {done.stderr[-300:]}")
     words = [COLLECT, "grades", table, "solo", new, grades]
     bench.good(words)
     found = {row[1]: row[4] if row[4] != "search" else f"search {row[5]}" for row in rows(table)}

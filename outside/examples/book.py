@@ -5,14 +5,17 @@ import math
 import re
 import time
 
-from examples_bench import EXAMPLES, SECONDS, children, expect, wait_until, without_progress
+from lib.trial import expect, wait_until
+
+from .bench import EXAMPLES, SECONDS, children, without_progress
 
 BOOK = EXAMPLES / "book" / "book.py"
-CHAPTERS = ["solo:3x3:easy:3", "solo:2x3x:any:2", "pattern:10x10:easy:3", "lightup:7x7:easy:2", "tents:8x8:medium:2",
+CHAPTERS = ["solo:3x3:easy:3", "solo:2x3x:any:2", "pattern:10x10:easy:2", "pattern:10x10:long:1", "lightup:7x7:easy:2", "tents:8x8:medium:2",
             "tents:8x8:hard:1", "solo:3x3:hard:2", "lightup:7x7:hard:1", "solo:3x3:medium:2", "pattern:10x10:medium:1",
             "solo:3x3x:easy:1", "pattern:10x10:hard:1"]
-GRADES = {"easy": ("singles", "lines", "local"), "medium": ("houses", "crossings", "lines", "local"), "hard": ("search",),
-          "any": ("singles", "houses", "crossings", "lines", "local", "search")}
+GRADES = {True: {"easy": "singles", "medium": "houses|crossings", "hard": "search ([2-9]|1[0-9]|20)", "any": ".+"},  # of Solo
+          False: {"easy": "lines|local", "long": "lines|local", "medium": "search [2-4]", "hard": "search ([5-9]|1[0-9]|20)",
+                  "any": ".+"}}
 RULES = {"solo": "each block", "pattern": "Between two runs", "lightup": "No bulb may stand", "tents": "No two tents touch"}
 POINTS = 6
 DOTS = 288  # to an inch, so 4 to a point
@@ -62,7 +65,7 @@ def whole(bench):
         page = squeezed(text[int(row["page"]) - 1])
         expect(squeezed(f"{row['number']} · {row['grade']}") in page and row["id"] in page, f"not on its page: {row}")
         expect(row["grade"] == bench.grade(row["game"], row["id"]), f"the program's grade is another: {row}")
-        expect(row["grade"].split()[0] in GRADES[row["level"]], f"the level is another: {row}")
+        expect(re.fullmatch(GRADES[row["game"] == "solo"][row["level"]], row["grade"]), f"the level is another: {row}")
         answer = bench.good([bench.program, "solve", "--", row["game"], row["id"]])
         expect(answer.startswith("one\n"), f"not one solution: {row}")
     expect(squeezed(text[-1]).startswith("Solutions"), text[-1])
@@ -177,7 +180,7 @@ def faults(bench):
                  "solo:9x9:any:1", "solo:3x3:\udcff:1", "solo:3x3:any:" + "9" * 5000):
         others = {"tents:3x3:any:1": "4x4 at least", "solo:9x9:any:1": "the size 9x9 is refused"}
         bench.told([BOOK, book, word], 2, others.get(word, "isn't GAME:SIZE:LEVEL:COUNT"))
-    bench.told([BOOK, book, "tents:8x8:houses:1"], 2, "a level of Solo alone")
+    bench.told([BOOK, book, "tents:8x8:houses:1"], 2, "houses is no level of tents")
     bench.told([BOOK, "--paper", "A3", book, one], 2, "invalid choice")
     for words in (["--seed", "-1"], ["--seconds", "0"], ["--seconds", "nan"], ["--seconds", "inf"]):
         bench.told([BOOK, *words, book, one], 2, "a seed is")

@@ -3,25 +3,16 @@ import os
 import pathlib
 import re
 import shutil
-import signal
 import subprocess
-import time
 
-TOP = pathlib.Path(__file__).resolve().parent.parent
+from lib.trial import Wrong, expect
+
+TOP = pathlib.Path(__file__).resolve().parents[2]
 EXAMPLES = TOP / "examples"
 SECONDS = 600  # for a call
 LETTERS = "0123456789abcdefghijklmnopqrstuvwxyzB_./,:x#-"
 PROGRESS = re.compile(r"\w+ \[#*\.*\] ")
 DEBIAN = "/usr/bin/python3"  # which has Debian's packages
-
-
-class Wrong(Exception):
-    """What a case found."""
-
-
-def expect(stands, words):
-    if not stands:
-        raise Wrong(words)
 
 
 def without_progress(text):
@@ -111,24 +102,8 @@ class Bench:
         subprocess.run(["umount", "-l", folder], capture_output=True, check=False, timeout=SECONDS)
 
 
-def ended(process):
-    """Ends a process with all of its session."""
-    try:
-        os.killpg(process.pid, signal.SIGKILL)
-    except ProcessLookupError:
-        pass
-    process.wait(timeout=SECONDS)
-
-
 def children(pid):
     """The processes of a session that still run."""
     found = subprocess.run(["ps", "-o", "pid=,stat=", "-s", str(pid)], capture_output=True, text=True, check=False,
                            timeout=SECONDS)
     return [line for line in found.stdout.splitlines() if " Z" not in line]
-
-
-def wait_until(is_so, seconds, words):
-    end = time.monotonic() + seconds
-    while not is_so():
-        expect(time.monotonic() < end, f"no end within {seconds} seconds: {words}")
-        time.sleep(.01)
