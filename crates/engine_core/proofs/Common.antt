@@ -61,7 +61,7 @@ unfoldable pub use Rattle.engine_core.specs.HouseSets.{kept_in, strikes_at}
 pub use Rattle.engine_core.specs.HouseSetsLaws.{bits-of_values, sets-bits, strikes_at-in_scope, strikes_at-place}
 pub use Rattle.engine_core.specs.Keeping.{AreSetsOf, IsKept}
 pub use Rattle.engine_core.specs.PlaceLaws.{has_place-at, has_place-here}
-pub use Rattle.engine_core.specs.PlanePosition.{AreUnderWay, PlacedPlanes, layers_in, places_of, standing_of}
+pub use Rattle.engine_core.specs.PlanePosition.{AreUnderWay, PlacedPlanes, layers_in, standing_on_planes, word_places}
 pub use Rattle.engine_core.specs.Position.{IsClosedAround, IsClosedBut, IsOnward, IsReturned, IsTaken, Standing}
 pub use Rattle.engine_core.specs.Queue.{IsQueuedAround, IsRested, IsWoken, called_for, calls, is_dead_in}
 unfoldable pub use Rattle.engine_core.specs.Queue.{but, counts_of, visits_left, woken}

@@ -1,5 +1,5 @@
 -- Planes as a position: what a step leaves.
-use Rattle.engine_core.proofs.Common.{AreUnderWay, Candidates, IsAlive, IsInside, IsLawful, IsOnward, List, None, PlacedPlanes, RuleSystem, ap, arith, cases_eq, common_steps, count_below-pos, false_from_ne_true, grid_of, is_dead-each, is_dead-inside, is_dead-not, is_full, length, only, only-here, only-other, pick, places_of, refl, standing_of, sym, true, true≢false, within_inside, ℕ, ◌*◌, ◌<◌, ◌∙◌, ◌≡◌, ◌≤◌, ◌⊎◌}
+use Rattle.engine_core.proofs.Common.{AreUnderWay, Candidates, IsAlive, IsInside, IsLawful, IsOnward, List, None, PlacedPlanes, RuleSystem, ap, arith, cases_eq, common_steps, count_below-pos, false_from_ne_true, grid_of, is_dead-each, is_dead-inside, is_dead-not, is_full, length, only, only-here, only-other, pick, word_places, refl, standing_on_planes, sym, true, true≢false, within_inside, ℕ, ◌*◌, ◌<◌, ◌∙◌, ◌≡◌, ◌≤◌, ◌⊎◌}
 use Rattle.grid_core.specs.Extent.{Extent}
 use Rattle.grid_core.specs.Planes.{IsBack, IsFurther, Layers, back_at, cells_of, has}
 use Rattle.grid_core.proofs.PlaneSteps.{pick-few, pick-none}
@@ -19,12 +19,12 @@ leave-alive p K cell v alive lt on = is_dead-each p.cells p.values (only K cell 
 
 -- values were taken
 pub step-onward : {S L : Type 0} (s : PlacedPlanes S L) (p' : Layers) (kept : S ⊎ L) → IsFurther s.planes p'
-    → IsOnward (standing_of s) (standing_of (record s { planes = p'; kept = kept }))
+    → IsOnward (standing_on_planes s) (standing_on_planes (record s { planes = p'; kept = kept }))
 step-onward s p' kept further = record { inside = further.inside; grows = further.grows; back = further.back }
 
 module _ {S L : Type 0} {p : RuleSystem} {size : Extent} {is_own : S ⊎ L → Type 0} (s : PlacedPlanes S L) where
   -- the planes have another board inside the start, and it has a value in each cell
-  walks : (p' : Layers) (kept : S ⊎ L) → AreUnderWay p size is_own s → p'.size ≡ s.planes.size → places_of kept ≡ places_of s.kept → is_own kept
+  walks : (p' : Layers) (kept : S ⊎ L) → AreUnderWay p size is_own s → p'.size ≡ s.planes.size → word_places kept ≡ word_places s.kept → is_own kept
       → IsLiveBoard p (has p') → AreUnderWay p size is_own (record s { planes = p'; kept = kept })
   walks p' kept under same words is board = record {
     fits = under.fits;
@@ -39,7 +39,7 @@ module _ {S L : Type 0} {p : RuleSystem} {size : Extent} {is_own : S ⊎ L → T
 
   -- values were taken
   pub step-walks : (p' : Layers) (kept : S ⊎ L) → AreUnderWay p size is_own s → IsFurther s.planes p' → IsAlive p (has p')
-      → places_of kept ≡ places_of s.kept → is_own kept → AreUnderWay p size is_own (record s { planes = p'; kept = kept })
+      → word_places kept ≡ word_places s.kept → is_own kept → AreUnderWay p size is_own (record s { planes = p'; kept = kept })
   step-walks p' kept under further alive words is = walks p' kept under further.same_size words is (record {
     alive = alive;
     within = λ c v on. under.board.board.within c v (further.inside c v on);
@@ -65,7 +65,7 @@ module _ {S L : Type 0} {p : RuleSystem} {size : Extent} {is_own : S ⊎ L → T
 
   -- a board to begin with
   pub start-walks : IsLawful p → IsAlive p p.start → FitsIn (needs_of p) s.made → s.planes.size ≡ size → size.w * size.h ≡ p.cells
-      → IsSuited size (places_of s.kept) → is_own s.kept → has s.planes ≡ p.start → AreUnderWay p size is_own s
+      → IsSuited size (word_places s.kept) → is_own s.kept → has s.planes ≡ p.start → AreUnderWay p size is_own s
   start-walks laws alive fits same few suited is start = record {
     fits = fits;
     own = is;

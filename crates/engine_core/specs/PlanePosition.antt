@@ -15,9 +15,9 @@ layers_in (Short noted) = noted.planes
 layers_in (Long noted) = noted.planes
 
 -- what is kept beside words of 64 places, or beside words of 128
-abbrev pub kept_in : {S L : Type 0} → EitherPlanes S L → S ⊎ L
-kept_in (Short noted) = inl noted.notes
-kept_in (Long noted) = inr noted.notes
+abbrev pub notes_of : {S L : Type 0} → EitherPlanes S L → S ⊎ L
+notes_of (Short noted) = inl noted.notes
+notes_of (Long noted) = inr noted.notes
 
 -- a word of either
 abbrev pub of_either : {S L : Type 0} {T : Type 1} → (S → T) → (L → T) → S ⊎ L → T
@@ -25,9 +25,9 @@ of_either short long (inl notes) = short notes
 of_either short long (inr notes) = long notes
 
 -- how many places the words have
-abbrev pub places_of : {S L : Type 0} → S ⊎ L → ℕ
-places_of (inl notes) = 64
-places_of (inr notes) = 128
+abbrev pub word_places : {S L : Type 0} → S ⊎ L → ℕ
+word_places (inl notes) = 64
+word_places (inr notes) = 128
 
 -- where words of 64 places may be too short for rules of these sizes, there are planes of 128 to change for
 abbrev pub AreLonger : {S L : Type 0} → (Needs → Type 0) → Needs → Option (EitherPlanes S L) → Type 0
@@ -42,7 +42,7 @@ AreEnough all_short made (Short noted) spare = AreLonger all_short made spare
 -- planes with room for each step of a board of so many cells and values
 abbrev pub HasSteps : {S L : Type 0} → (S ⊎ L → Needs → Type 0) → Needs → EitherPlanes S L → Type 0
 HasSteps fits made planes =
-    (length (layers_in planes).takings ≡ made.cells * made.values) × fits (kept_in planes) made
+    (length (layers_in planes).takings ≡ made.cells * made.values) × fits (notes_of planes) made
 
 -- planes to change for have the same room
 abbrev pub IsSpare : {S L : Type 0} → (S ⊎ L → Needs → Type 0) → Needs → Option (EitherPlanes S L) → Type 0
@@ -64,12 +64,12 @@ pub record PlacedPlanes (S L : Type 0) : Type 0 where
   pub kept : S ⊎ L
 
 -- what a walk sees of it
-abbrev pub standing_of : {S L : Type 0} → PlacedPlanes S L → Standing
-standing_of s = record { board = has s.planes; len = s.planes.len; back = back_at s.planes }
+abbrev pub standing_on_planes : {S L : Type 0} → PlacedPlanes S L → Standing
+standing_on_planes s = record { board = has s.planes; len = s.planes.len; back = back_at s.planes }
 
 -- a walk is under way, on planes of that size, and what is kept is of the rules
 pub record AreUnderWay {S L : Type 0} (p : RuleSystem) (size : Extent) (is_own : S ⊎ L → Type 0)
     (s : PlacedPlanes S L) : Type 0 where
   pub fits : FitsIn (needs_of p) s.made
   pub own : is_own s.kept
-  pub board : HasBoard p size (places_of s.kept) s.planes
+  pub board : HasBoard p size (word_places s.kept) s.planes

@@ -1,5 +1,5 @@
 -- The part of an ID before its colon, and the tests of it.
-use Rattle.gameid_core.specs.Common.{AllByRecursion, BadSize, Bool, Comes, Err, FailsHead, FailsSize, Game, HasNumber, HasSize, HeadRead, IdFault, IsFirstFailed, IsSizeText, IsSoloSizeText, Lacks, List, NoColon, None, Ok, Option, Result, SeedId, Sides, SizeRange, SizeRead, Some, TooLong, Variant, [], after_digits, all_ascii_digits, and_parts, ap, append_assoc, arith, begins, cases_eq, common_steps, cond, decimal, decimal-digits_value, digits_decimal, digits_front, digits_value-decimal, drop, drop_at, eq-eqb, eqb, false, false≢true, get_or, has_hash, head_at, head_of, head_tests, in_range, inl, inr, is_ascii_digit, leb, leb-true, length, length-append, list_any, list_any-append, lt-ltb, ltb, ltb-false, ltb-true, max_id, max_side, nat_tests, ne_eqb, position, position-Some, position_or_len, puzzle_of, refl, side_at, sides_at, size_of, size_read, size_tests, solo_size_text, subst, sym, take, take-append-drop, take_at, true, two_sides, value, ℕ, ◌++◌, ◌+◌, ◌<◌, ◌>>=◌, ◌^◌, ◌↔◌, ◌∙◌, ◌∷◌, ◌≡◌, ◌≤◌, ◌⊎◌}
+use Rattle.gameid_core.specs.Common.{AllByRecursion, BadSize, Bool, Comes, Err, FailsHead, FailsSize, Game, HasNumber, HasSize, HeadRead, IdFault, IsFirstFailed, IsSizeText, IsSoloSizeText, Lacks, List, NoColon, None, Ok, Option, Result, SeedId, Sides, SizeRange, SizeRead, Some, TooLong, Variant, [], after_digits, all_ascii_digits, and_parts, ap, append_assoc, arith, begins, cases_eq, common_steps, cond, decimal, decimal-digits_value, digits_decimal, digits_front, digits_value-decimal, drop, drop_at, eq-eqb, eqb, false, false≢true, get_or, has_hash, head_at, head_of, head_tests, in_range, inl, inr, is_ascii_digit, leb, leb-true, length, length-append, list_any, list_any-append, lt-ltb, ltb, ltb-false, ltb-true, max_id, max_side, nat_tests, ne_eqb, position, position-Some, position_or_len, puzzle_read, refl, side_at, sides_at, size_of, size_read, size_tests, solo_size_text, subst, sym, take, take-append-drop, take_at, true, two_sides, value, ℕ, ◌++◌, ◌+◌, ◌<◌, ◌>>=◌, ◌^◌, ◌↔◌, ◌∙◌, ◌∷◌, ◌≡◌, ◌≤◌, ◌⊎◌}
 use Rattle.gameid_core.specs.declared.id.game.Game.TheVariants.{Solo}
 use Rattle.gameid_core.proofs.Reading.{begins_front, bind_ok, decimal_leads, front_numeral, not_refused, ok_is, only_taken, own, place, taken}
 
@@ -200,23 +200,23 @@ pub record PartsRead {B P : Type 0} (game : Game) (text : List ℕ) (body : Head
 
 pub parts_of : {B P : Type 0} (game : Game) (text : List ℕ)
     (body : HeadRead → List ℕ → Result B IdFault) (make : HeadRead → B → P) {p : P}
-    → puzzle_of game (λ head description. body head description >>= (λ b. taken (make head b)))
+    → puzzle_read game (λ head description. body head description >>= (λ b. taken (make head b)))
     text ≡ Ok p → PartsRead game text body make p
-unfolding puzzle_of
+unfolding puzzle_read
 parts_of game text body make e = grind (arith, head_take)
 
 -- a size, ':' and a description are read as the description is behind that size
 pub puzzle_again : {P : Type 0} (game : Game) (behind : HeadRead → List ℕ → Result P IdFault)
     (front rest : List ℕ) (a b : ℕ) (x : Bool) → IsGameSize game front a b x
     → in_range game a b ≡ true → length (front ++ 58 ∷ rest) ≤ max_id
-    → puzzle_of game behind (front ++ 58 ∷ rest) ≡ behind
+    → puzzle_read game behind (front ++ 58 ∷ rest) ≡ behind
     (record { size = size_read a b x; description = length front + 1 }) rest
-unfolding puzzle_of
+unfolding puzzle_read
 puzzle_again game behind front rest a b x size range short = grind (arith, common_steps, head_again, after_front)
 
 pub puzzle_too_long : {P : Type 0} (game : Game) (behind : HeadRead → List ℕ → Result P IdFault)
-    (text : List ℕ) → max_id < length text → puzzle_of game behind text ≡ Err TooLong
-unfolding puzzle_of
+    (text : List ℕ) → max_id < length text → puzzle_read game behind text ≡ Err TooLong
+unfolding puzzle_read
 puzzle_too_long game behind text over = rw (head_too_long game text over) refl
 
 -- The first of the tests before the colon that fails is the fault that is read.

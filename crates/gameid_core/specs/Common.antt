@@ -42,7 +42,7 @@ pub use Rattle.gameid_core.specs.Head.{HeadRead, Sides, SizeRead, extent_of, has
 unfoldable pub use Rattle.gameid_core.specs.Head.{head_at, head_of, side_at, sides_at, size_of}
 pub use Rattle.gameid_core.specs.HeadTests.{Comes, FailsHead, FailsSize, HasNumber, HasSize, Lacks, TellsFirstFailed, head_tests, size_tests}
 pub use Rattle.gameid_core.specs.IdTexts.{id_text}
-unfoldable pub use Rattle.gameid_core.specs.IdTexts.{puzzle_of}
+unfoldable pub use Rattle.gameid_core.specs.IdTexts.{puzzle_read}
 pub use Rattle.gameid_core.specs.Lines.{AreColumnOnes, AreColumnRuns, AreRowOnes, AreRowRuns, lines_ones, lines_runs, ones}
 pub use Rattle.gameid_core.specs.IdTexts.{HasOneReading, HasOneText}
 pub use Rattle.gameid_core.specs.Puzzles.{AreClues, AreCounts, IsClue, IsLight, IsLightCell, IsPattern, IsSolo, IsTents, IsWide, Light, Pattern, Solo, Tents, pattern_puzzle, solo_n, solo_puzzle, tents_puzzle, used}

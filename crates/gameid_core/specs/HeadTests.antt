@@ -38,9 +38,9 @@ pub record HasOneSide (text : List ℕ) (size : Sides) : Type 0 where
   pub plain : size.x ≡ false
 
 -- what follows two numbers: in Solo an 'x' there is part of the size
-abbrev pub GoesOn : Game → List ℕ → Bool → List ℕ → Type 0
-GoesOn game after true rest = (game ≡ Solo) × (after ≡ 120 ∷ rest)
-GoesOn game after false rest = (game ≡ Solo → begins (λ c. c == 120) after ≡ false) × (after ≡ rest)
+abbrev pub HeadGoesOn : Game → List ℕ → Bool → List ℕ → Type 0
+HeadGoesOn game after true rest = (game ≡ Solo) × (after ≡ 120 ∷ rest)
+HeadGoesOn game after false rest = (game ≡ Solo → begins (λ c. c == 120) after ≡ false) × (after ≡ rest)
 
 -- the text begins with a number, 'x' and a number
 pub record HasTwoSides (game : Game) (text : List ℕ) (size : Sides) : Type 0 where
@@ -50,7 +50,7 @@ pub record HasTwoSides (game : Game) (text : List ℕ) (size : Sides) : Type 0 w
   pub after : List ℕ
   pub first : HasNumber text w_digits (120 ∷ behind)
   pub second : HasNumber behind h_digits after
-  pub goes_on : GoesOn game after size.x size.rest
+  pub goes_on : HeadGoesOn game after size.x size.rest
   pub both : (value w_digits ≡ size.w) × (value h_digits ≡ size.h)
 
 -- the text begins with that size

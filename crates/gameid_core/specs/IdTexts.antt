@@ -28,9 +28,9 @@ IsSoloSizeText text c r true = text ≡ solo_size_text c r true
 -- Game IDs of any game: a head, and a description behind it.
 
 -- the puzzle that the text spells, or its first fault: the head is read, and then the description
-unfoldable pub puzzle_of : {P : Type 0} → Game → (HeadRead → List ℕ → Result P IdFault) → List ℕ
+unfoldable pub puzzle_read : {P : Type 0} → Game → (HeadRead → List ℕ → Result P IdFault) → List ℕ
     → Result P IdFault
-puzzle_of game behind text =
+puzzle_read game behind text =
     head_of game text >>= (λ head. behind head (drop head.description text))
 
 -- the written text of a size and a description

@@ -9,7 +9,7 @@ use Rattle.gameid_core.specs.declared.light_up.cell.LightCell.TheVariants.{White
 use Rattle.gameid_core.specs.Words.{begins, bytes_of, is_byte}
 use Rattle.gameid_core.specs.Steps.{fill_end, fill_step, first_that_holds, is_letter, reading, ◌>>=◌}
 use Rattle.gameid_core.specs.Head.{HeadRead, extent_of, max_id}
-use Rattle.gameid_core.specs.IdTexts.{IsSizeText, puzzle_of, size_text}
+use Rattle.gameid_core.specs.IdTexts.{IsSizeText, puzzle_read, size_text}
 use Rattle.gameid_core.specs.Puzzles.{Light, IsLight}
 
 -- ---- What a text spells
@@ -82,7 +82,7 @@ light_behind head description = do
 
 -- the puzzle that the text spells, or its first fault
 abbrev pub light_of : List ℕ → Result Light IdFault
-light_of text = puzzle_of game.LightUp light_behind text
+light_of text = puzzle_read game.LightUp light_behind text
 
 -- ---- The written text
 

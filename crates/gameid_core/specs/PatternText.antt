@@ -10,7 +10,7 @@ use Rattle.gameid_core.specs.declared.id.game.Game.TheVariants as game
 use Rattle.gameid_core.specs.Words.{IsNumeral, IsPlain, after_digits, begins, is_byte, words, value}
 use Rattle.gameid_core.specs.Steps.{◌>>=◌, first_that_holds, reading}
 use Rattle.gameid_core.specs.Head.{HeadRead, extent_of, max_id}
-use Rattle.gameid_core.specs.IdTexts.{IsSizeText, puzzle_of, size_text}
+use Rattle.gameid_core.specs.IdTexts.{IsSizeText, puzzle_read, size_text}
 use Rattle.grid_core.specs.Lines.{line_cells, lines_of}
 use Rattle.gameid_core.specs.Puzzles.{Pattern, IsPattern, pattern_puzzle, used}
 
@@ -102,7 +102,7 @@ pattern_behind head description = do
 
 -- the puzzle that the text spells, or its first fault
 abbrev pub pattern_of : List ℕ → Result Pattern IdFault
-pattern_of text = puzzle_of game.Pattern pattern_behind text
+pattern_of text = puzzle_read game.Pattern pattern_behind text
 
 -- ---- The written text
 

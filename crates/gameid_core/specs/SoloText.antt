@@ -9,7 +9,7 @@ use Rattle.gameid_core.specs.declared.id.game.Game.TheVariants as game
 use Rattle.gameid_core.specs.Words.{begins, is_byte, is_lead, words, value}
 use Rattle.gameid_core.specs.Steps.{fill_end, fill_step, first_that_holds, is_letter, reading, ◌>>=◌}
 use Rattle.gameid_core.specs.Head.{HeadRead, max_id}
-use Rattle.gameid_core.specs.IdTexts.{IsSoloSizeText, puzzle_of, solo_size_text}
+use Rattle.gameid_core.specs.IdTexts.{IsSoloSizeText, puzzle_read, solo_size_text}
 use Rattle.gameid_core.specs.Puzzles.{Solo, IsSolo, solo_n, solo_puzzle}
 
 -- ---- What a text spells
@@ -111,7 +111,7 @@ solo_behind head description = do
 
 -- the puzzle that the text spells, or its first fault
 abbrev pub solo_of : List ℕ → Result Solo IdFault
-solo_of text = puzzle_of game.Solo solo_behind text
+solo_of text = puzzle_read game.Solo solo_behind text
 
 -- ---- The written text
 

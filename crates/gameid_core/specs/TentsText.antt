@@ -8,7 +8,7 @@ use Rattle.gameid_core.specs.declared.id.game.Game.TheVariants as game
 use Rattle.gameid_core.specs.Words.{IsNumeral, IsPlain, begins, is_byte, words, value}
 use Rattle.gameid_core.specs.Steps.{◌>>=◌, first_that_holds, reading}
 use Rattle.gameid_core.specs.Head.{HeadRead, extent_of, max_id}
-use Rattle.gameid_core.specs.IdTexts.{IsSizeText, puzzle_of, size_text}
+use Rattle.gameid_core.specs.IdTexts.{IsSizeText, puzzle_read, size_text}
 use Rattle.grid_core.specs.Lines.{line_cells, lines_of}
 use Rattle.gameid_core.specs.Puzzles.{Tents, IsTents, tents_puzzle}
 
@@ -135,7 +135,7 @@ tents_behind head description = do
 
 -- the puzzle that the text spells, or its first fault
 abbrev pub tents_of : List ℕ → Result Tents IdFault
-tents_of text = puzzle_of game.Tents tents_behind text
+tents_of text = puzzle_read game.Tents tents_behind text
 
 -- ---- The written text
 

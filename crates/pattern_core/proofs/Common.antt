@@ -61,5 +61,5 @@ pub use Rattle.pattern_core.specs.Lines.{ArePositive, HasClue, IsDecidedBy, IsRo
 unfoldable pub use Rattle.pattern_core.specs.Lines.{has_runs}
 pub use Rattle.pattern_core.specs.Track.{AreRows, AreRowsKept, IsBelow, IsSpelling, IsTrack, Spells, Track, along, set_for, sets_of, slots_of}
 unfoldable pub use Rattle.pattern_core.specs.Track.{ahead, any_cells, cell_is, cells_from, clue_along, goes_on, leads, led, may_stay, one_on, some_leads}
-unfoldable pub use Rattle.pattern_core.specs.Track.{spelled, stays, track_of}
-pub use Rattle.pattern_core.specs.declared.planes.waits.Waits.{Waits}
+unfoldable pub use Rattle.pattern_core.specs.Track.{spelled, can_stay, track_of}
+pub use Rattle.pattern_core.specs.declared.planes.waits.LinesWaiting.{LinesWaiting}

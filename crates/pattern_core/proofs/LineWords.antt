@@ -1,5 +1,5 @@
 -- Words as sets of places, and the cells of a line as words.
-use Rattle.pattern_core.proofs.Common.{AreRowsKept, Bool, List, Track, [], and-false, and-true, ap, arith, cases_Bool, cases_eq, cell_is, common_steps, cond, div-add-mod', eq-eqb, eqb, false, from_bool, fun_ext, get_or, goes_on, has_bit, inl, inr, le-ltb, led, length, lt-ltb, ltb, mod-lt, ne_eqb, one_on, or-false, refl, set_at, sets_by, sets_of, slice_index, some_leads, stays, subst, suc, sym, zero, ℕ, ◌%◌, ◌&&◌, ◌*◌, ◌+◌, ◌-◌, ◌/◌, ◌<◌, ◌||◌, ◌∙◌, ◌∷◌, ◌≡◌, ◌≤◌}
+use Rattle.pattern_core.proofs.Common.{AreRowsKept, Bool, List, Track, [], and-false, and-true, ap, arith, cases_Bool, cases_eq, cell_is, common_steps, cond, div-add-mod', eq-eqb, eqb, false, from_bool, fun_ext, get_or, goes_on, has_bit, inl, inr, le-ltb, led, length, lt-ltb, ltb, mod-lt, ne_eqb, one_on, or-false, refl, set_at, sets_by, sets_of, slice_index, some_leads, can_stay, subst, suc, sym, zero, ℕ, ◌%◌, ◌&&◌, ◌*◌, ◌+◌, ◌-◌, ◌/◌, ◌<◌, ◌||◌, ◌∙◌, ◌∷◌, ◌≡◌, ◌≤◌}
 use Rattle.pattern_core.specs.LinePlanes.{AreSmall}
 use Rattle.std.proofs.lemmas.List.{ext_get_or}
 use Rattle.std.specs.Prelude.{bit_or}
@@ -33,9 +33,9 @@ pub ruleset slot_laws = (power-bits, masks_are)
 
 -- the places reached, by the words of a step
 pub led_words : (t : Track) (set : ℕ) (reached next : ℕ → Bool) (p : ℕ) → ((q : ℕ) → next q ≡ (goes_on t set q && reached q))
-    → ((stays t set p && reached p) || one_on next p) ≡ led t set reached p
+    → ((can_stay t set p && reached p) || one_on next p) ≡ led t set reached p
 unfolding led
-led_words t set reached next p is = ap (λ f. (stays t set p && reached p) || one_on f p) (fun_ext is)
+led_words t set reached next p is = ap (λ f. (can_stay t set p && reached p) || one_on f p) (fun_ext is)
 
 -- The cells of a line as words, and as sets.
 

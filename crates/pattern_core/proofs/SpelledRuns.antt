@@ -1,5 +1,5 @@
 -- Spelled clues, and the lines that lead along them.
-use Rattle.pattern_core.proofs.Common.{ArePositive, Bool, IsBelow, IsSpelling, IsTrack, List, Set, Track, [], ahead, and-false, and-or_distrib_right, and_assoc, and_parts, any_below, any_below-here, any_below-some, any_cells, ap, append_assoc, ap₂, arith, cases_Bool, cases_eq, cases_lt, cell_is, cells_from, clue_along, common_steps, cond, drop, drop-drop, drop_more, eq-eqb, eqb, eqb-true, false, false_from_ne_true, false≢true, filling_from_test, fun_ext, get_or, get_or-drop, get_or_append_left, get_or_past, goes_on, has_bit, has_runs, inl, inr, le-leb, leads, leb, led, length, length-append, length-drop, length-replicate, lt-leb, may_stay, ne_eqb, not, one_on, or-false, or-true, or_cases, or_left, or_right, refl, replicate, replicate-append-replicate, runs, runs_after, set_for, some_filling, some_leads, spelled, stays, strikes_by_fillings, subst, suc, sym, test_from_filling, track_of, true, used, zero, ℕ, ◌&&◌, ◌++◌, ◌+◌, ◌-◌, ◌<◌, ◌||◌, ◌∙◌, ◌∷◌, ◌≡◌, ◌≤◌}
+use Rattle.pattern_core.proofs.Common.{ArePositive, Bool, IsBelow, IsSpelling, IsTrack, List, Set, Track, [], ahead, and-false, and-or_distrib_right, and_assoc, and_parts, any_below, any_below-here, any_below-some, any_cells, ap, append_assoc, ap₂, arith, cases_Bool, cases_eq, cases_lt, cell_is, cells_from, clue_along, common_steps, cond, drop, drop-drop, drop_more, eq-eqb, eqb, eqb-true, false, false_from_ne_true, false≢true, filling_from_test, fun_ext, get_or, get_or-drop, get_or_append_left, get_or_past, goes_on, has_bit, has_runs, inl, inr, le-leb, leads, leb, led, length, length-append, length-drop, length-replicate, lt-leb, may_stay, ne_eqb, not, one_on, or-false, or-true, or_cases, or_left, or_right, refl, replicate, replicate-append-replicate, runs, runs_after, set_for, some_filling, some_leads, spelled, can_stay, strikes_by_fillings, subst, suc, sym, test_from_filling, track_of, true, used, zero, ℕ, ◌&&◌, ◌++◌, ◌+◌, ◌-◌, ◌<◌, ◌||◌, ◌∙◌, ◌∷◌, ◌≡◌, ◌≤◌}
 use Rattle.std.specs.Cmp.Lexicographic.{pointwise}
 use Rattle.pattern_core.proofs.RoomyLines.{run_first}
 
@@ -185,7 +185,7 @@ module _ (t : Track) (set : ℕ) (sets : List Set) where
   -- by a test of the cells after it
   pub leads_next : (test : List ℕ → Bool) (p : ℕ) → some_leads t ((has_bit set 0 ∷ has_bit set 1 ∷ []) ∷ sets) (λ cells. test (drop 1 cells)) p
       ≡ ahead t set (some_leads t sets test) p
-  unfolding ahead stays goes_on
+  unfolding ahead can_stay goes_on
   leads_next test p = leads_on (λ cells. test (drop 1 cells)) p
       ∙ regroup _ (t.stay p) (t.white p) _ (t.black p) (some_leads t sets test p) (some_leads t sets test (suc p))
     where
@@ -199,7 +199,7 @@ module _ (t : Track) (set : ℕ) (sets : List Set) where
   -- with a value here
   pub leads_here : (v p : ℕ) → v < 2 → some_leads t ((has_bit set 0 ∷ has_bit set 1 ∷ []) ∷ sets) (cell_is 0 v) p
       ≡ (has_bit set v && ahead t (set_for v) (some_leads t sets any_cells) p)
-  unfolding ahead stays goes_on cell_is any_cells
+  unfolding ahead can_stay goes_on cell_is any_cells
   leads_here zero p lt = leads_on _ p ∙ simp (never (suc p), and-false, or-false)
   leads_here (suc zero) p lt = leads_on _ p ∙ simp (never p, never (suc p), and-false)
   leads_here (suc (suc v)) p lt = absurd (omega arith)
@@ -215,14 +215,14 @@ module _ {t : Track} (set n : ℕ) (below : IsBelow n t) (reached new way after 
   back : (p : ℕ) → p < n → new p ≡ true → after p ≡ true → any_below (λ p. reached p && way p) n ≡ true
   unfolding ahead led one_on
   back zero lt on on_after = any_below-here (λ p. reached p && way p) n 0 lt (grind (arith, leads_to 0, is 0))
-  back (suc p) lt on on_after = elim (cases_Bool (stays t set (suc p) && reached (suc p))) [
+  back (suc p) lt on on_after = elim (cases_Bool (can_stay t set (suc p) && reached (suc p))) [
     | inl x ↦ any_below-here (λ p. reached p && way p) n (suc p) lt (grind (arith, is (suc p)))
     | inr x ↦ any_below-here (λ p. reached p && way p) n p (omega arith) (grind (arith, leads_to (suc p), is p))
   ]
 
   forth : {p : ℕ} → p < n → reached p ≡ true → way p ≡ true → any_below (λ p. new p && after p) n ≡ true
   unfolding ahead led one_on
-  forth {p} lt on on_way = elim (cases_Bool (stays t set p && after p)) [
+  forth {p} lt on on_way = elim (cases_Bool (can_stay t set p && after p)) [
     | inl x ↦ any_below-here (λ p. new p && after p) n p lt (grind (arith, leads_to p))
     | inr x ↦
         let far = low p (grind (arith, is p)) in

@@ -1,5 +1,5 @@
 -- The steps of the table at a place of the line, and the line that goes along the spelled clue by the places that its cells reach.
-use Rattle.pattern_core.proofs.Common.{ArePositive, AreRows, AreRowsKept, Bool, IsBelow, IsDecidedBy, List, Track, [], ahead, and-true, and_from, and_parts, any_below, any_below-here, any_below-same, any_below-some, any_cells, ap, arith, cases_Bool, cases_eq, cell_is, common_steps, drop, drop-drop, drop_all, drop_more, eqb, eqb-true, false, false_from_ne_true, fun_ext, get_or, get_or-drop, get_or-map, get_or-set_other, get_or-set_same, goes_on, has_bit, has_runs, inl, inr, leads, led, length, length-map, length-set, or-false, refl, set, set_for, set_of_bits, sets_of, some_filling, some_leads, spelled, stays, suc, sym, track_of, true, true≢false, zero, ℕ, ◌&&◌, ◌+◌, ◌<◌, ◌||◌, ◌∙◌, ◌∷◌, ◌≡◌, ◌≤◌}
+use Rattle.pattern_core.proofs.Common.{ArePositive, AreRows, AreRowsKept, Bool, IsBelow, IsDecidedBy, List, Track, [], ahead, and-true, and_from, and_parts, any_below, any_below-here, any_below-same, any_below-some, any_cells, ap, arith, cases_Bool, cases_eq, cell_is, common_steps, drop, drop-drop, drop_all, drop_more, eqb, eqb-true, false, false_from_ne_true, fun_ext, get_or, get_or-drop, get_or-map, get_or-set_other, get_or-set_same, goes_on, has_bit, has_runs, inl, inr, leads, led, length, length-map, length-set, or-false, refl, set, set_for, set_of_bits, sets_of, some_filling, some_leads, spelled, can_stay, suc, sym, track_of, true, true≢false, zero, ℕ, ◌&&◌, ◌+◌, ◌<◌, ◌||◌, ◌∙◌, ◌∷◌, ◌≡◌, ◌≤◌}
 use Rattle.std.proofs.Math.Bool.{and_comm}
 use Rattle.pattern_core.proofs.SpelledRuns.{leads_here, leads_next, leads_runs, same_tests, strikes_by_track, ways_on}
 
@@ -115,7 +115,7 @@ pub decided_by_track : (clue : List ℕ) {sets kept : List ℕ} {t : Track} → 
 decided_by_track clue is positive k = grind (arith, common_steps, cases_Bool, strikes_by_track)
 
 leads_cell : (t : Track) (x : ℕ) (cells : List ℕ) (p : ℕ) → leads t p (x ∷ cells) ≡ ahead t (set_for x) (λ q. leads t q cells) p
-unfolding leads ahead stays goes_on
+unfolding leads ahead can_stay goes_on
 leads_cell t zero cells p = ap (λ w. (t.stay p && leads t p cells) || (w && leads t (suc p) cells)) (sym (or-false (t.white p)))
 leads_cell t (suc x) cells p = refl
 

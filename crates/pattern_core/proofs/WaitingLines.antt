@@ -1,5 +1,5 @@
 -- Which lines wait: those that have a place, and after a visit.
-use Rattle.pattern_core.proofs.Common.{AreLinesRested, AreLinesWithin, Bool, Candidates, Column, Extent, IsAlive, IsClosedBut, IsExtent, IsIdle, IsNext, IsStart, IsWoken, Line, List, None, Option, Pattern, Row, Some, Waits, alive_but, and_from, and_parts, any_below, any_below-here, any_below-none, any_below-some, ap, arith, but, calls, cases_Bool, cases_eq, cases_lt, column_has, common_steps, counts_of, crossed_by, div-add-mod', div-mul-add, eq-eqb, eqb, eqb-true, false, false_from_ne_true, false≢true, has_bit, has_lost, has_place, house_of, inl, inr, is_marked, is_same, le-ltb, length, length-line_places, line_len, line_of, line_places, line_rules, line_rules-alive, line_rules-lawful, lines_beside, lines_of, lines_with, lt-ltb, ltb-true, mod-lt, mod-mul-add, mul-le-mul_right, ne_eqb, not, number_of, or_cases, or_left, or_parts, or_right, place-in, refl, rested_around, row_has, sym, true, true≢false, waiting, woken, ℕ, ◌%◌, ◌&&◌, ◌*◌, ◌+◌, ◌-◌, ◌/◌, ◌<◌, ◌||◌, ◌∙◌, ◌≡◌, ◌≤◌, ◌⊎◌}
+use Rattle.pattern_core.proofs.Common.{AreLinesRested, AreLinesWithin, Bool, Candidates, Column, Extent, IsAlive, IsClosedBut, IsExtent, IsIdle, IsNext, IsStart, IsWoken, Line, List, None, Option, Pattern, Row, Some, LinesWaiting, alive_but, and_from, and_parts, any_below, any_below-here, any_below-none, any_below-some, ap, arith, but, calls, cases_Bool, cases_eq, cases_lt, column_has, common_steps, counts_of, crossed_by, div-add-mod', div-mul-add, eq-eqb, eqb, eqb-true, false, false_from_ne_true, false≢true, has_bit, has_lost, has_place, house_of, inl, inr, is_marked, is_same, le-ltb, length, length-line_places, line_len, line_of, line_places, line_rules, line_rules-alive, line_rules-lawful, lines_beside, lines_of, lines_with, lt-ltb, ltb-true, mod-lt, mod-mul-add, mul-le-mul_right, ne_eqb, not, number_of, or_cases, or_left, or_parts, or_right, place-in, refl, rested_around, row_has, sym, true, true≢false, waiting, woken, ℕ, ◌%◌, ◌&&◌, ◌*◌, ◌+◌, ◌-◌, ◌/◌, ◌<◌, ◌||◌, ◌∙◌, ◌≡◌, ◌≤◌, ◌⊎◌}
 use Rattle.pattern_core.proofs.LineTakings.{cell-at, cell_of, line-long}
 
 module _ (size : Extent) {w place : ℕ} (from : ℕ) (same : w ≡ size.w) (within : place < size.w * size.h) where
@@ -37,7 +37,7 @@ module _ (size : Extent) {w place : ℕ} (from : ℕ) (same : w ≡ size.w) (wit
   its_lines line = grind (arith, common_steps, cases_Bool, eq-eqb, in_column, in_row, ne_eqb, no_other, or_left, or_right, true≢false)
 
 -- no line waits, where no column and no row does
-pub none-marked : {W : Type 0} (room : ℕ) (bits : W → ℕ) (waits : Waits W) (line : Line) → any_below (has_bit (bits waits.columns)) room ≡ false
+pub none-marked : {W : Type 0} (room : ℕ) (bits : W → ℕ) (waits : LinesWaiting W) (line : Line) → any_below (has_bit (bits waits.columns)) room ≡ false
     → any_below (has_bit (bits waits.rows)) room ≡ false → number_of line < room → is_marked bits waits line ≡ false
 none-marked room bits waits (Row y) columns rows lt = any_below-none (has_bit (bits waits.rows)) room rows y lt
 none-marked room bits waits (Column x) columns rows lt = any_below-none (has_bit (bits waits.columns)) room columns x lt
@@ -73,12 +73,12 @@ same-number size (Row y) (Row z) lt less e = eq-eqb z y (omega arith)
 
 -- ---- what waits at the start
 -- of the first n lines those without a mark strike nothing, and no other has one
-pub record AreWeighed {W : Type 0} (bits : W → ℕ) (p : Pattern) (waits : Waits W) (n : ℕ) : Type 0 where
+pub record AreWeighed {W : Type 0} (bits : W → ℕ) (p : Pattern) (waits : LinesWaiting W) (n : ℕ) : Type 0 where
   pub idle : (line : Line) → number_of line < lines_beside p.size line → house_of p.size line < n → is_marked bits waits line ≡ false
       → IsIdle (line_rules p) (house_of p.size line) (line_rules p).start
   pub within : (line : Line) → is_marked bits waits line ≡ true → (number_of line < lines_beside p.size line) × (house_of p.size line < n)
 
-pub weighed-more : {W : Type 0} {bits : W → ℕ} {p : Pattern} {waits : Waits W} (waits' : Waits W) (line : Line) (on : Bool) {n : ℕ} → number_of line < lines_beside p.size line
+pub weighed-more : {W : Type 0} {bits : W → ℕ} {p : Pattern} {waits : LinesWaiting W} (waits' : LinesWaiting W) (line : Line) (on : Bool) {n : ℕ} → number_of line < lines_beside p.size line
     → house_of p.size line ≡ n → ((other : Line) → is_marked bits waits' other ≡ (is_marked bits waits other || (on && is_same line other)))
     → (on ≡ false → IsIdle (line_rules p) n (line_rules p).start) → AreWeighed bits p waits n → AreWeighed bits p waits' (n + 1)
 weighed-more {bits} {p} {waits} waits' line on {n} lt is marks idle are = record {
@@ -96,7 +96,7 @@ weighed-more {bits} {p} {waits} waits' line on {n} lt is marks idle are = record
   ];
 }
 
-pub weighed-all : {W : Type 0} {bits : W → ℕ} {p : Pattern} {waits : Waits W} {n : ℕ} → n ≡ lines_of p.size → AreWeighed bits p waits n → IsStart bits p waits
+pub weighed-all : {W : Type 0} {bits : W → ℕ} {p : Pattern} {waits : LinesWaiting W} {n : ℕ} → n ≡ lines_of p.size → AreWeighed bits p waits n → IsStart bits p waits
 unfolding waiting
 weighed-all {p} all are = (
   λ h c v lt off on.
@@ -106,7 +106,7 @@ weighed-all {p} all are = (
 )
 
 -- ---- what waits for a place
-place-at : {W : Type 0} (bits : W → ℕ) (size : Extent) (waits : Waits W) {w : ℕ} (place j : ℕ) → w ≡ size.w
+place-at : {W : Type 0} (bits : W → ℕ) (size : Extent) (waits : LinesWaiting W) {w : ℕ} (place j : ℕ) → w ≡ size.w
     → ((line : Line) → is_marked bits waits line ≡ (is_same (Column (place % w)) line || is_same (Row (place / w)) line))
     → place % w < size.w → waiting bits size waits j ≡ (eqb j (place % w) || eqb j (w + place / w))
 unfolding waiting
@@ -116,14 +116,14 @@ place-at bits size waits {w} place j same marks low = elim (cases_lt j size.w) [
       rw (le-ltb _ _ le) (marks (Row (j - size.w)) ∙ grind (arith, common_steps, cases_Bool, cases_eq j (w + place / w), ne_eqb j (place % w), eq-eqb, ne_eqb)))
 ]
 
-pub place-rested : {W : Type 0} (bits : W → ℕ) (p : Pattern) (K : Candidates) (waits : Waits W) {w place : ℕ} → IsExtent p.size → w ≡ p.size.w
+pub place-rested : {W : Type 0} (bits : W → ℕ) (p : Pattern) (K : Candidates) (waits : LinesWaiting W) {w place : ℕ} → IsExtent p.size → w ≡ p.size.w
     → ((line : Line) → is_marked bits waits line ≡ (is_same (Column (place % w)) line || is_same (Row (place / w)) line))
     → place < p.size.w * p.size.h → place % w < p.size.w → IsClosedBut (line_rules p) K (Some place) → AreLinesRested bits p K waits
 place-rested bits p K waits {w} {place} extent same marks within low closed =
     rested_around (line_rules-lawful p extent) place {none = λ j. false} (λ j lt. refl)
     (record { marks = λ j lt. place-at bits p.size waits place j same marks low ∙ its_lines p.size 0 same within j }) closed
 
-pub place-first : {W : Type 0} (bits : W → ℕ) (p : Pattern) (K : Candidates) (none one both : Waits W) {w : ℕ} (place : ℕ) {x y : ℕ} → IsExtent p.size → w ≡ p.size.w
+pub place-first : {W : Type 0} (bits : W → ℕ) (p : Pattern) (K : Candidates) (none one both : LinesWaiting W) {w : ℕ} (place : ℕ) {x y : ℕ} → IsExtent p.size → w ≡ p.size.w
     → x ≡ place % w → y ≡ place / w → ((line : Line) → is_marked bits none line ≡ false)
     → ((line : Line) → is_marked bits one line ≡ (is_marked bits none line || is_same (Column x) line))
     → ((line : Line) → is_marked bits both line ≡ (is_marked bits one line || is_same (Row y) line))
@@ -134,12 +134,12 @@ place-first bits p K none one both {w} place {x} {y} extent same ex ey off first
     (closed.within place closed.value closed.had).0 (omega (arith, low, ex, same)) closed
 
 -- ---- a line's mark, by its number as a house
-pub waits-line : {W : Type 0} (bits : W → ℕ) (size : Extent) (waits : Waits W) (line : Line) → number_of line < lines_beside size line
+pub waits-line : {W : Type 0} (bits : W → ℕ) (size : Extent) (waits : LinesWaiting W) (line : Line) → number_of line < lines_beside size line
     → waiting bits size waits (house_of size line) ≡ is_marked bits waits line
 unfolding waiting
 waits-line bits size waits line lt = ap (is_marked bits waits) (line-of-house size line lt)
 
-pub none-waits : {W : Type 0} (bits : W → ℕ) (size : Extent) (waits : Waits W) {room : ℕ} → size.w ≤ room → size.h ≤ room
+pub none-waits : {W : Type 0} (bits : W → ℕ) (size : Extent) (waits : LinesWaiting W) {room : ℕ} → size.w ≤ room → size.h ≤ room
     → ((line : Line) → number_of line < room → is_marked bits waits line ≡ false) → (h : ℕ) → h < lines_of size → waiting bits size waits h ≡ false
 unfolding waiting
 none-waits bits size waits {room} narrow low none h lt = none (line_of size h) (beside-room (line_of size h) (line-in size h lt))
@@ -235,7 +235,7 @@ module _ (p : Pattern) (line : Line) (lt : number_of line < lines_beside p.size 
         true≢false (sym (rw (e, crossed-here p.size line lt lost lk) v.0) ∙ off))))
   ]
 
-  module _ {W : Type 0} (bits : W → ℕ) (waits gone now : Waits W)
+  module _ {W : Type 0} (bits : W → ℕ) (waits gone now : LinesWaiting W)
       (first : (other : Line) → is_marked bits gone other ≡ (is_marked bits waits other && not (is_same line other)))
       (second : (other : Line) → is_marked bits now other ≡ (is_marked bits gone other || crossed_by line lost other)) where
     pub lines-woken : IsWoken (line_rules p) house K K' (waiting bits p.size waits) (waiting bits p.size now)

@@ -10,7 +10,7 @@ use Rattle.pattern_core.specs.LineRules.{line_rules}
 use Rattle.pattern_core.specs.Lines.{IsDecidedBy}
 use Rattle.pattern_core.specs.Track.{AreRowsKept, Track}
 use Rattle.pattern_core.specs.declared.planes.filter.Cells.{Cells}
-use Rattle.pattern_core.specs.declared.planes.waits.Waits.{Waits}
+use Rattle.pattern_core.specs.declared.planes.waits.LinesWaiting.{LinesWaiting}
 
 -- ---- lines
 -- the number of a line as a house: the columns come first
@@ -32,16 +32,16 @@ crossed_by (Row y) cells (Column x) = has_bit cells x
 crossed_by (Row y) cells (Row z) = false
 
 -- ---- which lines wait
-abbrev pub is_marked : {W : Type 0} → (W → ℕ) → Waits W → Line → Bool
+abbrev pub is_marked : {W : Type 0} → (W → ℕ) → LinesWaiting W → Line → Bool
 is_marked bits waits (Column x) = has_bit (bits waits.columns) x
 is_marked bits waits (Row y) = has_bit (bits waits.rows) y
 
 -- the lines that pass wait too; and the line waits no more
-abbrev pub AreLinesMarked : {W : Type 0} → (W → ℕ) → Waits W → (Line → Bool) → Waits W → Type 0
+abbrev pub AreLinesMarked : {W : Type 0} → (W → ℕ) → LinesWaiting W → (Line → Bool) → LinesWaiting W → Type 0
 AreLinesMarked bits before passes now =
     (other : Line) → is_marked bits now other ≡ (is_marked bits before other || passes other)
 
-abbrev pub AreMarkedBut : {W : Type 0} → (W → ℕ) → Waits W → Line → Waits W → Type 0
+abbrev pub AreMarkedBut : {W : Type 0} → (W → ℕ) → LinesWaiting W → Line → LinesWaiting W → Type 0
 AreMarkedBut bits before line now = (other : Line)
     → is_marked bits now other ≡ (is_marked bits before other && not (is_same line other))
 
@@ -49,11 +49,11 @@ AreMarkedBut bits before line now = (other : Line)
 abbrev pub line_of : Extent → ℕ → Line
 line_of size j = if nat_lt j size.w then Column j else Row (j - size.w)
 
-unfoldable pub waiting : {W : Type 0} → (W → ℕ) → Extent → Waits W → ℕ → Bool
+unfoldable pub waiting : {W : Type 0} → (W → ℕ) → Extent → LinesWaiting W → ℕ → Bool
 waiting bits size waits j = is_marked bits waits (line_of size j)
 
 -- the line waits, or no line does
-abbrev pub IsNextLine : {W : Type 0} → ℕ → (W → ℕ) → Waits W → Option Line → Type 0
+abbrev pub IsNextLine : {W : Type 0} → ℕ → (W → ℕ) → LinesWaiting W → Option Line → Type 0
 IsNextLine room bits waits None = (line : Line) → number_of line < room → is_marked bits waits line ≡ false
 IsNextLine room bits waits (Some line) = (is_marked bits waits line ≡ true) × (number_of line < room)
 
@@ -106,11 +106,11 @@ IsVisitOf bits p line from to lost =
 
 -- ---- where a closing begins
 -- a line that does not wait strikes nothing from the board
-abbrev pub AreLinesRested : {W : Type 0} → (W → ℕ) → Pattern → Candidates → Waits W → Type 0
+abbrev pub AreLinesRested : {W : Type 0} → (W → ℕ) → Pattern → Candidates → LinesWaiting W → Type 0
 AreLinesRested bits p K waits = IsRested (line_rules p) K (waiting bits p.size waits)
 
 -- only lines of the grid wait
-abbrev pub AreLinesWithin : {W : Type 0} → (W → ℕ) → Extent → Waits W → Type 0
+abbrev pub AreLinesWithin : {W : Type 0} → (W → ℕ) → Extent → LinesWaiting W → Type 0
 AreLinesWithin bits size waits = (line : Line) → is_marked bits waits line ≡ true → number_of line < lines_beside size line
 
 -- the line strikes nothing from the board that a search starts from
@@ -118,7 +118,7 @@ abbrev pub IsIdleAtStart : Pattern → ℕ → Type 0
 IsIdleAtStart p line = IsIdle (line_rules p) line (line_rules p).start
 
 -- both, at the board that a search starts from
-abbrev pub IsStart : {W : Type 0} → (W → ℕ) → Pattern → Waits W → Type 0
+abbrev pub IsStart : {W : Type 0} → (W → ℕ) → Pattern → LinesWaiting W → Type 0
 IsStart bits p waits = AreLinesRested bits p (line_rules p).start waits × AreLinesWithin bits p.size waits
 
 -- no side is longer than a word, and the board has no other cells and values than the puzzle's

@@ -76,8 +76,8 @@ abbrev pub AreBySet : (ℕ → ℕ → Bool) → ℕ → ℕ → Type 0
 AreBySet has white black = (set p : ℕ) → has set p ≡ by_set (has_bit white) (has_bit black) set p
 
 -- whether a line may stay at the place by a cell of this set, and whether it may go on from there
-unfoldable pub stays : Track → ℕ → ℕ → Bool
-stays t set p = has_bit set 0 && t.stay p
+unfoldable pub can_stay : Track → ℕ → ℕ → Bool
+can_stay t set p = has_bit set 0 && t.stay p
 
 unfoldable pub goes_on : Track → ℕ → ℕ → Bool
 goes_on t set = by_set t.white t.black set
@@ -85,11 +85,11 @@ goes_on t set = by_set t.white t.black set
 -- by what a cell may be, from which places it moves a line on along a track, and at which the line may stay
 pub record AreMoves (t : Track) (on stay : ℕ → ℕ → Bool) : Type 0 where
   pub goes : (set p : ℕ) → on set p ≡ goes_on t set p
-  pub rests : (set p : ℕ) → stay set p ≡ stays t set p
+  pub rests : (set p : ℕ) → stay set p ≡ can_stay t set p
 
 -- whether there is a way from the place to an end by a cell of this set, where `after` tells it of what follows
 unfoldable pub ahead : Track → ℕ → (ℕ → Bool) → ℕ → Bool
-ahead t set after p = (stays t set p && after p) || (goes_on t set p && after (suc p))
+ahead t set after p = (can_stay t set p && after p) || (goes_on t set p && after (suc p))
 
 abbrev pub AreAhead : {A : Type 0} → (A → ℕ → Bool) → TrackSlots A → ℕ → A → A → Type 0
 AreAhead has steps set after result =
@@ -102,7 +102,7 @@ one_on places (suc p) = places p
 
 -- the places reached by a cell of this set from those that are reached before it
 unfoldable pub led : Track → ℕ → (ℕ → Bool) → ℕ → Bool
-led t set reached p = (stays t set p && reached p) || one_on (λ q. goes_on t set q && reached q) p
+led t set reached p = (can_stay t set p && reached p) || one_on (λ q. goes_on t set q && reached q) p
 
 -- the places are those reached, of n
 abbrev pub AreLed : {A : Type 0} → ℕ → (A → ℕ → Bool) → TrackSlots A → ℕ → A → A → Type 0

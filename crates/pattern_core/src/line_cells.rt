@@ -9,7 +9,7 @@ use grid_core::{Size, line_len, line_place};
 
 /// The places of a line's cells.
 #[tactic(auto, using(grid_core::proofs::RegionLemmas::line_laws))]
-pub(crate) fn places_of(size: Size, line: usize) -> ArrayVec<u32, LONGEST>
+pub(crate) fn cells_of_line(size: Size, line: usize) -> ArrayVec<u32, LONGEST>
     requires { line < lines_of size }
     ensures places { result.items ≡ line_places size line }
     ensures inside { (k : ℕ) → k < length result.items

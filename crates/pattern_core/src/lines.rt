@@ -9,7 +9,7 @@ ghost use Rattle.pattern_core.specs.Lines.{clue_of};
 ghost use Rattle.pattern_core.specs.LinePlanes.{IsIdleAtStart};
 ghost use Rattle.pattern_core.specs.LineRules.{line_rules, numbers_in};
 
-use crate::line_cells::places_of;
+use crate::line_cells::cells_of_line;
 use crate::line_clue::{LONGEST, LineClue};
 use crate::line_scratch::LineScratch;
 use crate::planes::filter::filter_sets;
@@ -164,7 +164,7 @@ impl Rules for PatternLines {
     }
 
     fn visit(&self, house: usize, board: &mut Board, scratch: &mut LineScratch) -> bool {
-        let places = places_of(self.size(), house);
+        let places = cells_of_line(self.size(), house);
         let places: &[u32] = &places;
         let mut sets = [0; LONGEST];
         let sets = &mut sets[..places.len()];

@@ -3,7 +3,7 @@
 ghost use Rattle.std.specs.Prelude.{◌*◌, ◌≡◌, IfOk, length};
 ghost use Rattle.engine_core.specs.Common.{FitsIn, needs_in, needs_of};
 ghost use Rattle.engine_core.specs.PlaneNotes.{IsSuited};
-ghost use Rattle.engine_core.specs.PlanePosition.{AreChosen, kept_in, places_of};
+ghost use Rattle.engine_core.specs.PlanePosition.{AreChosen, notes_of, word_places};
 
 use crate::needs::Needs;
 use crate::planes::rules::{BinaryRules, PlaneNotes, PlaneRules};
@@ -90,7 +90,7 @@ pub(crate) fn choose<R: PlaneRules>(
 )
     requires fits { FitsIn (needs_of (R.system rules.now)) (needs_in made) }
     requires planes { AreChosen R.Short.fits R.Long.fits R.all_short made planes.old spare.old }
-    ensures suited { IsSuited (R.extent rules.now) (places_of (kept_in planes.new)) }
+    ensures suited { IsSuited (R.extent rules.now) (word_places (notes_of planes.new)) }
     ensures planes { AreChosen R.Short.fits R.Long.fits R.all_short made planes.new spare.new }
 {
     let size = rules.size();

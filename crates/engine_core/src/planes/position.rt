@@ -2,7 +2,7 @@
 #![tactic(auto, using(crate::proofs::LawSets::plane_position_laws))]
 
 ghost use Rattle.std.specs.Prelude.{◌≡◌, ◌≤◌, length};
-ghost use Rattle.engine_core.specs.PlanePosition.{AreUnderWay, standing_of};
+ghost use Rattle.engine_core.specs.PlanePosition.{AreUnderWay, standing_on_planes};
 
 use crate::mode::Taken;
 use crate::needs::{Needs, needs_for};
@@ -35,14 +35,14 @@ impl<R: PlaneRules> Drop for PlanePosition<R> {
 
 impl<R: PlaneRules> Model for PlanePosition<R> {
     ghost use Rattle.engine_core.specs.Needs.{needs_in};
-    ghost use Rattle.engine_core.specs.PlanePosition.{AreChosen, PlacedPlanes, kept_in, layers_in};
+    ghost use Rattle.engine_core.specs.PlanePosition.{AreChosen, PlacedPlanes, notes_of, layers_in};
 
     ghost Value = { PlacedPlanes R.Short R.Long };
 
     ghost view = { λ s. record {
       made = needs_in s.made;
       planes = layers_in s.planes;
-      kept = kept_in s.planes;
+      kept = notes_of s.planes;
     } };
 
     ghost invariant = { λ s. AreChosen R.Short.fits R.Long.fits R.all_short s.made s.planes s.spare
@@ -52,7 +52,7 @@ impl<R: PlaneRules> Model for PlanePosition<R> {
 impl<R: PlaneRules> Position<R> for PlanePosition<R> {
     ghost use Rattle.engine_core.specs.PlanePosition.{of_either};
 
-    ghost stands = { λ s. standing_of s };
+    ghost stands = { λ s. standing_on_planes s };
 
     ghost room = { λ s. record { needs = s.made; trail = length s.planes.takings } };
 

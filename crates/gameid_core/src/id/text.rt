@@ -2,7 +2,7 @@
 //! reader and one writer serve all.
 
 ghost use Rattle.std.specs.Prelude.{◌≡◌, ℕ, ◌<◌, ◌+◌, ◌^◌, ◌++◌, List, Result, Err, true, length, string_bytes, IfOk, OnOk};
-ghost use Rattle.gameid_core.specs.Common.{Adds, Game, Gives, HeadRead, IdFault, SizeRead, head_of, head_read, id_text, in_range, puzzle_of, size_read};
+ghost use Rattle.gameid_core.specs.Common.{Adds, Game, Gives, HeadRead, IdFault, SizeRead, head_of, head_read, id_text, in_range, puzzle_read, size_read};
 
 use crate::id::fault::IdFault;
 use crate::id::game::Game;
@@ -46,9 +46,9 @@ pub(crate) trait IdText: Sized {
 }
 
 /// The puzzle that the text spells, or its first fault, as reading gives it.
-#[tactic(auto, unfolding(crate::specs::IdTexts::puzzle_of))]
+#[tactic(auto, unfolding(crate::specs::IdTexts::puzzle_read))]
 pub(crate) fn read_id<P: IdText>(alloc: Global, text: &[u8]) -> Result<P, IdFault>
-    ensures exact { Gives (λ p. p) result (puzzle_of P.GAME P.behind text.now) }
+    ensures exact { Gives (λ p. p) result (puzzle_read P.GAME P.behind text.now) }
     ensures head { (f : IdFault) → head_of P.GAME text.now ≡ Err f → result ≡ Err f }
 {
     let head = read_head(P::GAME, text)?;

@@ -9,12 +9,12 @@ ghost use Rattle.pattern_core.specs.LineRules.{line_rules};
 use crate::line_scratch::LineScratch;
 use crate::lines::PatternLines;
 use crate::planes::visit::visit;
-use crate::planes::waits::Waits;
+use crate::planes::waits::LinesWaiting;
 use engine_core::{Closing, Taken};
 use grid_core::{Line, Planes, Word};
 
 /// The lines that wait, and that one where `on`.
-fn with_if<W: Word>(waits: Waits<W>, line: Line, on: bool) -> Waits<W>
+fn with_if<W: Word>(waits: LinesWaiting<W>, line: Line, on: bool) -> LinesWaiting<W>
     requires { number_of line < W.room }
     ensures { AreLinesMarked W.bits waits (λ other. on && is_same line other) result }
 {
@@ -22,14 +22,14 @@ fn with_if<W: Word>(waits: Waits<W>, line: Line, on: bool) -> Waits<W>
 }
 
 /// The lines that may strike anything from the board that a search starts from.
-fn at_start<W: Word>(rules: &PatternLines) -> Waits<W>
+fn at_start<W: Word>(rules: &PatternLines) -> LinesWaiting<W>
     requires narrow { rules.now.pattern.size.w ≤ W.room }
     requires low { rules.now.pattern.size.h ≤ W.room }
     ensures { IsStart W.bits rules.now.pattern result }
 {
     let size = rules.size();
     let w = usize::from(size.w());
-    let mut waits = Waits::none();
+    let mut waits = LinesWaiting::none();
     for x in 0..size.w() {
         waits = with_if(waits, Line::Column(x), rules.may_strike(usize::from(x)));
     }
@@ -40,7 +40,7 @@ fn at_start<W: Word>(rules: &PatternLines) -> Waits<W>
 }
 
 /// The lines that wait where a closing begins: those of the place, or where none is named those that may strike at the start.
-fn first<W: Word>(planes: &Planes<W>, rules: &PatternLines, from: Option<usize>) -> Waits<W>
+fn first<W: Word>(planes: &Planes<W>, rules: &PatternLines, from: Option<usize>) -> LinesWaiting<W>
     requires size { planes.now.size ≡ rules.now.pattern.size }
     requires closed_but { IsClosedBut (line_rules rules.now.pattern) (has planes.now) from }
     ensures rested { AreLinesRested W.bits rules.now.pattern (has planes.now) result }
@@ -52,7 +52,7 @@ fn first<W: Word>(planes: &Planes<W>, rules: &PatternLines, from: Option<usize>)
         return at_start(rules);
     };
     let (y, x) = planes.split(place);
-    Waits::none()
+    LinesWaiting::none()
         .with(Line::Column(x as u8))
         .with(Line::Row(y as u8))
 }

@@ -8,33 +8,33 @@ use grid_core::{Line, Word};
 
 /// The columns and the rows that wait.
 #[derive(Clone, Copy)]
-pub(crate) struct Waits<W> {
+pub(crate) struct LinesWaiting<W> {
     columns: W,
     rows: W,
 }
 
-impl<W: Word> Waits<W> {
+impl<W: Word> LinesWaiting<W> {
     /// No line waits.
-    pub(crate) fn none() -> Waits<W>
+    pub(crate) fn none() -> LinesWaiting<W>
         ensures { (line : Line) → is_marked W.bits result line ≡ false }
     {
-        Waits {
+        LinesWaiting {
             columns: W::none(),
             rows: W::none(),
         }
     }
 
     /// The line waits too.
-    pub(crate) fn with(self, line: Line) -> Waits<W>
+    pub(crate) fn with(self, line: Line) -> LinesWaiting<W>
         requires { number_of line < W.room }
         ensures { AreLinesMarked W.bits self (is_same line) result }
     {
         match line {
-            Line::Column(x) => Waits {
+            Line::Column(x) => LinesWaiting {
                 columns: self.columns.either(W::one(usize::from(x))),
                 rows: self.rows,
             },
-            Line::Row(y) => Waits {
+            Line::Row(y) => LinesWaiting {
                 columns: self.columns,
                 rows: self.rows.either(W::one(usize::from(y))),
             },
@@ -42,16 +42,16 @@ impl<W: Word> Waits<W> {
     }
 
     /// The line waits no more.
-    pub(crate) fn without(self, line: Line) -> Waits<W>
+    pub(crate) fn without(self, line: Line) -> LinesWaiting<W>
         requires { number_of line < W.room }
         ensures { AreMarkedBut W.bits self line result }
     {
         match line {
-            Line::Column(x) => Waits {
+            Line::Column(x) => LinesWaiting {
                 columns: self.columns.but(W::one(usize::from(x))),
                 rows: self.rows,
             },
-            Line::Row(y) => Waits {
+            Line::Row(y) => LinesWaiting {
                 columns: self.columns,
                 rows: self.rows.but(W::one(usize::from(y))),
             },
@@ -59,15 +59,15 @@ impl<W: Word> Waits<W> {
     }
 
     /// The lines that cross the line at these cells wait too.
-    pub(crate) fn with_crossing(self, line: Line, cells: W) -> Waits<W>
+    pub(crate) fn with_crossing(self, line: Line, cells: W) -> LinesWaiting<W>
         ensures { AreLinesMarked W.bits self (crossed_by line (W.bits cells)) result }
     {
         match line {
-            Line::Column(_) => Waits {
+            Line::Column(_) => LinesWaiting {
                 columns: self.columns,
                 rows: self.rows.either(cells),
             },
-            Line::Row(_) => Waits {
+            Line::Row(_) => LinesWaiting {
                 columns: self.columns.either(cells),
                 rows: self.rows,
             },

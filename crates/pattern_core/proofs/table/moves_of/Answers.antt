@@ -1,8 +1,8 @@
-use Rattle.pattern_core.proofs.Common.{and-false, ap, goes_on, has_bit, or-false, stays, ◌&&◌, ◌||◌, ◌∙◌, slots_of}
+use Rattle.pattern_core.proofs.Common.{and-false, ap, goes_on, has_bit, or-false, can_stay, ◌&&◌, ◌||◌, ◌∙◌, slots_of}
 use Rattle.pattern_core.proofs.table.moves_of.Goals as goal
 
 pub invariant_of-result : goal.invariant_of-result
-unfolding stays goes_on
+unfolding can_stay goes_on
 invariant_of-result g c = record {
   are = record {
     goes = c.masks.ensures;

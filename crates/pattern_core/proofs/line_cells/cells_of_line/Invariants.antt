@@ -1,5 +1,5 @@
 use Rattle.pattern_core.proofs.Common.{length, line_places, slice_index, ℕ, ◌*◌, ◌<◌, ◌≡◌}
-use Rattle.pattern_core.proofs.line_cells.places_of.Given as goal
+use Rattle.pattern_core.proofs.line_cells.cells_of_line.Given as goal
 
 abbrev pub invariant-loop-k : goal.invariant-loop-k
 invariant-loop-k l = (length l.places.items ≡ l.k)

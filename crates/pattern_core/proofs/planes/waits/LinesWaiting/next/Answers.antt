@@ -1,6 +1,6 @@
 use Rattle.pattern_core.proofs.Common.{arith, cases_Bool, common_steps, false, sym, ◌∙◌, ◌≡◌}
 use Rattle.pattern_core.proofs.WaitingLines.{none-marked}
-use Rattle.pattern_core.proofs.planes.waits.Waits.next.Goals as goal
+use Rattle.pattern_core.proofs.planes.waits.LinesWaiting.next.Goals as goal
 
 pub returns-else-has_columns : goal.returns-else-has_columns
 returns-else-has_columns g c = λ line lt.
