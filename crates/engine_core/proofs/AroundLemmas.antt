@@ -1,5 +1,5 @@
 -- Closings that go around over the houses that wait, and what they came to.
-use Rattle.engine_core.proofs.Common.{AreWritten, BoardAndMarks, Bool, Candidates, Dead, HasStruck, IsAlive, IsClosedBy, IsClosedIn, IsClosing, IsDead, IsLawful, IsQueuedAround, IsRested, IsTaken, IsWithin, IsWoken, List, Open, RuleSystem, Some, [], after, ap, arith, but, cases_Bool, cases_lt, common_steps, false, from_bool, has, if◌then◌else◌, inl, inr, is_dead, le-ltb, length, length-append, length-set, lt-ltb, ltb, max, not, refl, set, suc, sweeps_in, sym, take, true, true≢false, visits_in, within_inside, ℕ, ◌&&◌, ◌*◌, ◌++◌, ◌+◌, ◌-◌, ◌<◌, ◌||◌, ◌∙◌, ◌∷◌, ◌≡◌, ◌≤◌, ◌⊎◌}
+use Rattle.engine_core.proofs.Common.{AreWritten, BoardAndMarks, Bool, Candidates, Dead, HasStruck, IsAlive, IsClosedBy, IsClosedIn, IsClosing, IsDead, IsLawful, IsQueuedAround, IsRested, IsTaken, IsWithin, IsWoken, List, Open, RuleSystem, Some, [], after, ap, arith, but, cases_Bool, cases_lt, common_steps, false, from_bool, has, if◌then◌else◌, inl, inr, is_dead, le-ltb, length, length-append, length-set, lt-ltb, ltb, max, not, refl, set, suc, sweeps_in, sym, take, true, true≢false, visits_in, within_inside, ℕ, ◌&&◌, ◌*◌, ◌++◌, ◌+◌, ◌-◌, ◌<◌, ◌||◌, ◌∙◌, ◌∷◌, ◌≡◌, ◌≤◌, ◌⊎◌, and-true, and-false}
 use Rattle.engine_core.specs.declared.mode.Closing.{Closing}
 use Rattle.engine_core.specs.declared.mode.Taken.{Taken}
 use Rattle.engine_core.proofs.ClosingLemmas.{replay_inside}
@@ -95,16 +95,8 @@ pub record IsStriking (p : RuleSystem) (K0 : Candidates) (n from : ℕ) (K : Can
   pub lost : struck ≡ true → HasStruck first K
   pub same : struck ≡ false → K ≡ first
 
-kept-on : (x : Bool) → (x && true) ≡ x
-kept-on true = refl
-kept-on false = refl
-
-kept-off : (x : Bool) → (x && false) ≡ false
-kept-off true = refl
-kept-off false = refl
-
 pub still-alive : (dead : Bool) → (dead && true) ≡ false → dead ≡ false
-still-alive dead e = sym (kept-on dead) ∙ e
+still-alive dead e = sym (and-true dead) ∙ e
 
 module _ (p : RuleSystem) (laws : IsLawful p) (K0 : Candidates) (within : IsWithin p.cells p.values K0) where
   -- the houses from here on do not wait
@@ -185,8 +177,8 @@ module _ (p : RuleSystem) (laws : IsLawful p) (K0 : Candidates) (within : IsWith
       → (more : ℕ) → (h < from → IsAlive p K) → IsQueuedAround waits p.houses from (Some h) → more ≡ from_bool (ltb h from)
       → IsStriking p K0 (n + more) h K waits (struck && not (ltb h from))
   striking-next {from} {h} {K} {struck} s past more alive around counts = elim (amid-next s.amid past more alive around counts) [
-    | inl here ↦ rw (le-ltb h from here.0, kept-on struck) (record { first = s.first; amid = here.1; lost = s.lost; same = s.same })
-    | inr new ↦ rw (lt-ltb h from new.0, kept-off struck) (record { first = K; amid = new.1; lost = λ e. absurd (true≢false (sym e)); same = λ _. refl })
+    | inl here ↦ rw (le-ltb h from here.0, and-true struck) (record { first = s.first; amid = here.1; lost = s.lost; same = s.same })
+    | inr new ↦ rw (lt-ltb h from new.0, and-false struck) (record { first = K; amid = new.1; lost = λ e. absurd (true≢false (sym e)); same = λ _. refl })
   ]
 
   pub striking-turn : {n h : ℕ} {K K' : Candidates} {waits waits' : ℕ → Bool} {struck now : Bool} → IsStriking p K0 n h K waits struck

@@ -3,6 +3,7 @@ pub use Rattle.std.proofs.Common.{Bool, IfSome, List, None, Option, Some, [], ad
 pub use Rattle.std.proofs.Common.{get_or, if◌then◌else◌, inl, inr, is_some, length, length-append, length-set, length-take, ltb, max, not, option_to_list}
 pub use Rattle.std.proofs.Common.{refl, replicate, rules, set, slice_index, subst, suc, sym, take, true, w32, w64, zero, ℕ, ◌%◌, ◌&&◌, ◌*◌, ◌++◌, ◌+◌, ◌-◌}
 pub use Rattle.std.proofs.Common.{◌/◌, ◌<◌, ◌==◌, ◌^◌, ◌||◌, ◌↔◌, ◌∙◌, ◌∷◌, ◌≡◌, ◌≢◌, ◌≤◌, ◌⊎◌}
+pub use Rattle.std.proofs.Math.Bool.{and-false, and-true, or-false}
 pub use Rattle.std.proofs.Math.Nat.{div-div-eq-div-mul, div-le_self, mul-le-mul_right, mul-suc, pow-succ'}
 pub use Rattle.std.proofs.Math.Path.{fun_ext}
 pub use Rattle.std.proofs.Math.Seq.{take-append_seam, take-length, take-suc-set}
@@ -39,7 +40,7 @@ pub use Rattle.grid_core.specs.Board.{Layout, SameShape, cells_of}
 unfoldable pub use Rattle.grid_core.specs.Board.{has}
 pub use Rattle.grid_core.specs.Candidates.{Candidates, IsInside, IsWithin}
 unfoldable pub use Rattle.grid_core.specs.Candidates.{any_below, better, count_below, grid_of, is_dead, is_full, least_below, only, pick, single}
-unfoldable pub use Rattle.grid_core.specs.Candidates.{total, with_set, without}
+unfoldable pub use Rattle.grid_core.specs.Candidates.{put_back, total, with_set, without}
 pub use Rattle.grid_core.specs.Pieces.{AreEnds, last_end, pieces}
 unfoldable pub use Rattle.grid_core.specs.Regions.{step}
 pub use Rattle.engine_core.specs.Closer.{AreWritten, BoardAndMarks, IsClosedBy, SameRoom, sweeps_in, visits_in}
@@ -71,8 +72,8 @@ pub use Rattle.engine_core.specs.Frames.{Level}
 unfoldable pub use Rattle.engine_core.specs.Frames.{branches_from, pending}
 pub use Rattle.engine_core.specs.Sets.{IsBitsOf, IsChange, has_bit}
 pub use Rattle.engine_core.specs.Stored.{IsAnswer, is_settled}
-pub use Rattle.engine_core.specs.Trail.{AreLost, IsTrail, IsTrailLonger, Trail, back_at, change_at, given_back, is_since}
-unfoldable pub use Rattle.engine_core.specs.Trail.{left_by, put_back}
+pub use Rattle.engine_core.specs.Trail.{AreLost, IsTrail, IsTrailLonger, Trail, back_at, before_changes, change_at, given_back, is_since}
+unfoldable pub use Rattle.engine_core.specs.Trail.{left_by}
 pub use Rattle.engine_core.specs.Trail.{GoesOn, IsAlong, Placed, board_in}
 unfoldable pub use Rattle.engine_core.specs.Counts.{trials_of}
 pub use Rattle.engine_core.specs.Verdict.{IsTrueOf, Outcome, Outcome.GaveUp, Outcome.NoSolution, Outcome.OneSolution, Outcome.SeveralSolutions, Solves}

@@ -8,7 +8,8 @@ use Rattle.engine_core.proofs.SearchLemmas.{found_iff, outcome-counts, outcome-t
 use Rattle.engine_core.proofs.WalkLemmas.{walk-once, walk-unfold}
 use Rattle.engine_core.proofs.PlaneSteps.{step-onward, step-walks}
 use Rattle.engine_core.proofs.SweepLemmas.{total-bound}
-use Rattle.engine_core.proofs.TrailLemmas.{put_back-none, trail-none}
+use Rattle.engine_core.proofs.TrailLemmas.{trail-none}
+use Rattle.grid_core.proofs.TakingLemmas.{put_back-none}
 
 pub ruleset house_index_laws = (mark-first, mark-more, marked-first, marked-more, marks-at, next-marked, joined-first, joined-more, length-set)
 

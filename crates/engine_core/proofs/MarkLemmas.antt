@@ -25,12 +25,6 @@ word-is : (waits : List ℕ) (w j : ℕ) → j / 64 ≡ w → is_waiting waits j
 unfolding is_waiting
 word-is waits w j e = ap (λ k. has_bit (get_or waits k 0) (j % 64)) e
 
-or_false : {x : Bool} → x ≡ (x || false)
-or_false = grind (arith, common_steps)
-
-and_true : (x : Bool) → x ≡ (x && true)
-and_true x0 = grind (arith, common_steps)
-
 -- the word of a house written anew, where its bits are the old ones but for that house
 waiting-word : (f : Bool → Bool → Bool) → ((x : Bool) → f x false ≡ x) → (waits : List ℕ) (h y j : ℕ) → h / 64 < length waits
     → ((b : ℕ) → b < 64 → has_bit y b ≡ f (has_bit (get_or waits (h / 64) 0) b) (eqb b (h % 64)))

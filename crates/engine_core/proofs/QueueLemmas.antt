@@ -1,5 +1,5 @@
 -- Closings by a queue: what is closed, what changes, and which houses wait.
-use Rattle.engine_core.proofs.Common.{AreWoken, Bool, Candidates, IsBitsOf, IsBoardOf, IsChange, IsClosed, IsClosedAround, IsClosedBut, IsIdle, IsInside, IsInsideAt, IsLawful, IsNext, IsRested, IsWithin, IsWoken, Layout, List, None, Option, RuleSystem, SameShape, Some, [], add-one, after, and_from, and_left, and_parts, and_right, any_below, any_below-here, any_below-none, any_below-some, ap, arith, but, called_for, calls, cases_Bool, cases_eq, cases_lt, cells_of, common_steps, count_below, count_below-any, count_below-bound, count_below-few, count_below-kept, count_below-le, count_below-lt, count_below-none, count_below-pos, counts_of, eq-eqb, eqb, eqb-true, false, false_from_ne_true, fun_ext, has, has_bit, has_place, has_place-at, has_place-here, inl, inr, is_dead, is_dead-each, is_dead-here, is_dead-inside, is_dead-not, is_dead_in, is_some, le-ltb, left_by, length, lt-ltb, ltb, mul-le-mul_right, ne_eqb, not, not-true, not_from_false, not_from_true, only, only-here, only-inside, only-other, or_cases, or_left, or_right, pow_below, power-bits, refl, set, share, slice_index, sum_below-add, sum_below-le, sym, take, take-suc-set, true, true≢false, visits_left, woken, ℕ, ◌&&◌, ◌*◌, ◌++◌, ◌+◌, ◌-◌, ◌<◌, ◌^◌, ◌||◌, ◌∙◌, ◌∷◌, ◌≡◌, ◌≤◌}
+use Rattle.engine_core.proofs.Common.{AreWoken, Bool, Candidates, IsBitsOf, IsBoardOf, IsChange, IsClosed, IsClosedAround, IsClosedBut, IsIdle, IsInside, IsInsideAt, IsLawful, IsNext, IsRested, IsWithin, IsWoken, Layout, List, None, Option, RuleSystem, SameShape, Some, [], add-one, after, and_from, and_left, and_parts, and_right, any_below, any_below-here, any_below-none, any_below-some, ap, arith, but, called_for, calls, cases_Bool, cases_eq, cases_lt, cells_of, common_steps, count_below, count_below-any, count_below-bound, count_below-few, count_below-kept, count_below-le, count_below-lt, count_below-none, count_below-pos, counts_of, eq-eqb, eqb, eqb-true, false, false_from_ne_true, fun_ext, has, has_bit, has_place, has_place-at, has_place-here, inl, inr, is_dead, is_dead-each, is_dead-here, is_dead-inside, is_dead-not, is_dead_in, is_some, le-ltb, left_by, length, lt-ltb, ltb, mul-le-mul_right, ne_eqb, not, not-true, not_from_false, not_from_true, only, only-here, only-inside, only-other, or_cases, or_left, or_right, pow_below, power-bits, refl, set, share, slice_index, sum_below-add, sum_below-le, sym, take, take-suc-set, true, true≢false, visits_left, woken, ℕ, ◌&&◌, ◌*◌, ◌++◌, ◌+◌, ◌-◌, ◌<◌, ◌^◌, ◌||◌, ◌∙◌, ◌∷◌, ◌≡◌, ◌≤◌, or-false}
 use Rattle.engine_core.proofs.ClosingLemmas.{after_inside}
 use Rattle.engine_core.proofs.SetLemmas.{bits-empty, counts-differ, counts-same}
 pub use Rattle.engine_core.specs.PositionLaws.{within_of}
@@ -184,11 +184,8 @@ pub any_below-more : (p : ℕ → Bool) (n : ℕ) → any_below p (n + 1) ≡ (a
 unfolding any_below
 any_below-more p n = rw add-one refl
 
-or_false : {x : Bool} → (x || false) ≡ x
-or_false = grind (arith, common_steps)
-
 pub unwoken : {x : Bool} → x ≡ (x || false)
-unwoken = sym or_false
+unwoken {x} = sym (or-false x)
 
 -- and whether it has no value
 pub dead-first : (p : RuleSystem) (h : ℕ) (K : Candidates) → false ≡ any_below (λ k. eqb (counts_of p h K k) 0) 0

@@ -11,6 +11,6 @@ pub use Rattle.std.specs.Prelude.{All, sum_by}
 pub use Rattle.grid_core.specs.Board.{Layout, SameShape, cells_of}
 unfoldable pub use Rattle.grid_core.specs.Board.{has}
 pub use Rattle.grid_core.specs.Candidates.{Candidates, IsInside, IsWithin, max_cells, max_values}
-unfoldable pub use Rattle.grid_core.specs.Candidates.{any_below, count_below, grid_of, is_dead, is_full, single, sum_below, total, with_set}
+unfoldable pub use Rattle.grid_core.specs.Candidates.{any_below, count_below, grid_of, is_dead, is_full, put_back, single, sum_below, total, with_set}
 pub use Rattle.grid_core.specs.Extent.{Extent}
 pub use Rattle.grid_core.specs.Grids.{IsGrid}

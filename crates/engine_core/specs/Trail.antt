@@ -1,6 +1,6 @@
 -- A board with the trail of its changes, as a position, and which houses wait. No public contract uses these words.
 use Rattle.std.specs.Prelude.{Bool, List, Option, false, if◌then◌else◌, length, nat_le, not, slice_index, slice_index_or, suc, true, zero, ℕ, ◌&&◌, ◌*◌, ◌+◌, ◌<◌, ◌==◌, ◌^◌, ◌≡◌, ◌≢◌, ◌≤◌}
-use Rattle.engine_core.specs.Below.{Candidates, IsInside, Layout, SameShape, any_below, cells_of, has, total, with_set}
+use Rattle.engine_core.specs.Below.{Candidates, IsInside, Layout, SameShape, any_below, cells_of, has, put_back, total, with_set}
 use Rattle.engine_core.specs.RuleSystem.{FitsIn, IsBoardOf, Needs, RuleSystem, after, has_place, needs_of}
 use Rattle.engine_core.specs.ClosingList.{IsAlive, IsDeadAfter}
 use Rattle.engine_core.specs.Queue.{IsRested, IsWoken, counts_of}
@@ -22,10 +22,8 @@ unfoldable pub left_by : Candidates → ℕ → ℕ → Candidates
 left_by K place bits c v = K c v && not ((place == c) && not (has_bit bits v))
 
 -- the board before the changes from the number `mark` up to n
-unfoldable pub put_back : Candidates → List (ℕ × ℕ) → ℕ → ℕ → Candidates
-put_back K changes mark zero = K
-put_back K changes mark (suc n) =
-    if nat_le mark n then put_back (given_back K (change_at changes n)) changes mark n else K
+abbrev pub before_changes : Candidates → List (ℕ × ℕ) → ℕ → ℕ → Candidates
+before_changes K changes mark n = put_back given_back (0, 0) K changes mark n
 
 -- a board, and its changes: the first `len` of the list
 pub record Trail : Type 0 where
@@ -35,7 +33,7 @@ pub record Trail : Type 0 where
 
 -- the board that a mark gives back
 abbrev pub back_at : Trail → ℕ → Candidates
-back_at t mark = put_back (has t.board) t.changes mark t.len
+back_at t mark = before_changes (has t.board) t.changes mark t.len
 
 -- the changes are of cells and values of the board, and there is room for as many as can come
 pub record IsTrail (cells values : ℕ) (K : Candidates) (changes : List (ℕ × ℕ))
@@ -44,7 +42,7 @@ pub record IsTrail (cells values : ℕ) (K : Candidates) (changes : List (ℕ ×
   pub changes_in : (k : ℕ) → k < len
       → ((change_at changes k).0 < cells) × ((change_at changes k).1 < 2 ^ values)
   pub room : (mark : ℕ) → mark ≤ len
-      → total cells values (put_back K changes mark len) + mark ≤ length changes
+      → total cells values (before_changes K changes mark len) + mark ≤ length changes
 
 -- values were struck, and are noted: each earlier mark gives back the same
 pub record IsTrailLonger (from to : Trail) : Type 0 where

@@ -3,6 +3,7 @@ use Rattle.fields_core.proofs.Common.{AreHouses, AreLinesOf, AreMet, ArePlanesAl
 use Rattle.engine_core.proofs.SweepLemmas.{IsSwept, fewer, sweep-shut, swept-dead, swept-first, swept-idle, swept-turn}
 use Rattle.fields_core.proofs.VisitLemmas.{IsBinaryAlive, replay-visits}
 use Rattle.engine_core.proofs.QueueLemmas.{alive_around}
+use Rattle.grid_core.specs.Planes.{no_taking, turned_by}
 use Rattle.grid_core.proofs.TakingLemmas.{put_back-none}
 use Rattle.fields_core.proofs.BesideLemmas.{IsNextTo}
 
@@ -119,7 +120,7 @@ value-kept {K} {L} c v inside never = grind (arith, common_steps, cases_Bool, fa
 
 -- the board when the trail had that length
 pub back-whole : {from to : Layers} {len : ℕ} → from.len ≡ len → IsFurther from to → back_at to len ≡ has from
-back-whole {from} is further = rw (← is) (further.back from.len (omega arith) ∙ put_back-none from.size.w (has from) from.takings from.len from.len (omega arith))
+back-whole {from} is further = rw (← is) (further.back from.len (omega arith) ∙ put_back-none (turned_by from.size.w) no_taking (has from) from.takings from.len from.len (omega arith))
 
 -- ---- a board that is closed but around a cell
 module _ (p : CountPuzzle) {K : Candidates} {place : ℕ} (around : IsClosedAround (rules_of p) K place) where

@@ -37,15 +37,15 @@ pub use Rattle.grid_core.specs.Augmenting.{AreMatesJoined, AreOwners, AreLeftsRe
 pub use Rattle.grid_core.specs.Augmenting.{IsMateOfLater, IsFrontierOf, MatesView, ReachesOwners, with_left}
 pub use Rattle.grid_core.specs.Board.{IsBoard, IsSetsOf, Layout}
 pub use Rattle.grid_core.specs.Candidates.{Candidates, IsInside, IsWithin, max_cells}
-unfoldable pub use Rattle.grid_core.specs.Candidates.{all_below, all_of, any_below, better, count_below, grid_of, is_dead, is_full, least_below, only}
+unfoldable pub use Rattle.grid_core.specs.Candidates.{all_below, all_of, any_below, better, count_below, grid_of, is_dead, is_full, least_below, only, put_back}
 unfoldable pub use Rattle.grid_core.specs.Candidates.{pick, single, sum_below, total, with_set, with_value, without}
 pub use Rattle.grid_core.specs.Extent.{Extent, IsExtent, max_side}
 pub use Rattle.grid_core.specs.Grids.{IsGrid}
 pub use Rattle.grid_core.specs.Pairings.{IsShortSet}
 pub use Rattle.grid_core.specs.Planes.{AreLinesFilled, ArePlanes, AreTakings, AreTurned, AreWords, HasLine, HasLost, HasRoomFor, IsFresh, IsFurther, IsLineIn}
-pub use Rattle.grid_core.specs.Planes.{IsTakingIn, IsThere, Layers, Taking, at_line, back_at, cells_of, layers_of, line_len, no_taking, taking_at}
+pub use Rattle.grid_core.specs.Planes.{IsTakingIn, IsThere, Layers, Taking, at_line, back_at, cells_of, layers_of, line_len, no_taking, taking_at, with_first}
 pub use Rattle.grid_core.specs.Planes.{taking_of}
-unfoldable pub use Rattle.grid_core.specs.Planes.{bit_of, covers, crosses, has, put_back, turned_by, without_taking}
+unfoldable pub use Rattle.grid_core.specs.Planes.{bit_of, covers, crosses, has, turned_by, without_taking}
 pub use Rattle.grid_core.specs.Regions.{beside, column_places, down, left, right, row_places, up}
 unfoldable pub use Rattle.grid_core.specs.Regions.{step, steps}
 pub use Rattle.grid_core.specs.Words.{IsLeast, has_bit}

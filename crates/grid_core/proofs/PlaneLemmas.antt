@@ -1,5 +1,5 @@
 -- Planes: their words, the board that they are, and the lines of the cells that lost values.
-use Rattle.grid_core.proofs.Common.{ArePlanes, AreTurned, AreWords, Bool, Candidates, Column, Extent, HasLine, HasLost, HasRoomFor, IsFurther, IsInside, IsLineIn, IsTakingIn, IsThere, IsWithin, Layers, List, Row, Taking, and_from, and_parts, any_below, ap, arith, at_line, back_at, bit_of, cases_Bool, cases_eq, cases_lt, cells_of, common_steps, covers, crosses, differ, div-add-mod', div-mul-add, eq-eqb, eqb, eqb-true, false, false_from_ne_true, fun_ext, has, has_bit, inl, inr, le-ltb, length, length-set, line_len, lt-ltb, ltb, ltb-true, mod-mul-add, mul-le-mul_right, ne_eqb, not, refl, set, sym, taking_at, total, true, true≢false, turned_by, without_taking, ℕ, ◌%◌, ◌&&◌, ◌*◌, ◌+◌, ◌-◌, ◌/◌, ◌<◌, ◌==◌, ◌∙◌, ◌≡◌, ◌≤◌}
+use Rattle.grid_core.proofs.Common.{ArePlanes, AreTurned, AreWords, Bool, Candidates, Column, Extent, HasLine, HasLost, HasRoomFor, IsFurther, IsInside, IsLineIn, IsTakingIn, IsThere, IsWithin, Layers, List, Row, Taking, and_from, and_parts, any_below, ap, arith, at_line, back_at, bit_of, cases_Bool, cases_eq, cases_lt, cells_of, common_steps, covers, crosses, differ, div-add-mod', div-mul-add, eq-eqb, eqb, eqb-true, false, false_from_ne_true, fun_ext, has, has_bit, inl, inr, le-ltb, length, length-set, line_len, lt-ltb, ltb, ltb-true, mod-mul-add, mul-le-mul_right, ne_eqb, no_taking, not, refl, set, sym, taking_at, total, true, true≢false, turned_by, without_taking, ℕ, ◌%◌, ◌&&◌, ◌*◌, ◌+◌, ◌-◌, ◌/◌, ◌<◌, ◌==◌, ◌∙◌, ◌≡◌, ◌≤◌}
 use Rattle.grid_core.proofs.BoardLemmas.{any_below-none, any_below-some, total-lt}
 use Rattle.grid_core.specs.declared.planes.line.Line.{Line}
 use Rattle.grid_core.proofs.TakingLemmas.{put_back-noted, put_back-undone, takings-noted, takings-room, takings-undone}
@@ -167,7 +167,7 @@ taken room p t rows columns are there turned tall wide =
         grows = omega arith;
         same = λ e. absurd (omega arith);
         lost = λ _. rw left (taken-lost room p t are there);
-        back = λ m le. put_back-noted p.size.w (has p) (has p') p.takings m p.len t le lt back;
+        back = λ m le. put_back-noted (turned_by p.size.w) no_taking (has p) (has p') p.takings m p.len t le lt back;
       };
     }
 
@@ -277,7 +277,7 @@ given_back room p rows columns n are e turned tall wide =
         words = words-turned p.size p.rows p.columns rows columns t are.words turned within.line_in;
         takings = rw (turn, n_is) (takings-undone p.size (has p) p.takings p.len (omega arith) are.takings);
       };
-      back = λ m lt. rw (turn, n_is) (put_back-undone p.size.w (has p) p.takings m p.len lt);
+      back = λ m lt. rw (turn, n_is) (put_back-undone (turned_by p.size.w) no_taking (has p) p.takings m p.len lt);
     }
 
 -- The lines of the cells that lost values.

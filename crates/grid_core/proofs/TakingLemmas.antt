@@ -1,40 +1,43 @@
 -- What a mark gives back, and what was taken, noted at the end of a trail and put back from its end.
-use Rattle.grid_core.proofs.Common.{AreTakings, Candidates, Extent, IsInside, IsTakingIn, List, Taking, add-one, and_parts, any_below, ap, arith, cases_Bool, cases_eq, covers, crosses, differ, eqb-true, false, common_steps, get_or-set_other, get_or-set_same, inl, inr, le-leb, length, length-set, lt-leb, put_back, refl, set, suc, sym, taking_at, total, true, true≢false, turned_by, zero, ℕ, ◌%◌, ◌&&◌, ◌*◌, ◌+◌, ◌-◌, ◌/◌, ◌<◌, ◌∙◌, ◌≡◌, ◌≤◌}
+use Rattle.grid_core.proofs.Common.{AreTakings, Candidates, Extent, IsInside, IsTakingIn, List, Taking, add-one, and_parts, any_below, ap, arith, cases_Bool, cases_eq, covers, crosses, differ, eqb-true, false, common_steps, get_or-set_other, get_or-set_same, inl, inr, le-leb, length, length-set, lt-leb, no_taking, put_back, refl, set, suc, sym, taking_at, total, true, true≢false, turned_by, with_first, zero, ℕ, ◌%◌, ◌&&◌, ◌*◌, ◌+◌, ◌-◌, ◌/◌, ◌<◌, ◌∙◌, ◌≡◌, ◌≤◌}
+use Rattle.std.specs.Prelude.{slice_index_or}
 use Rattle.std.proofs.lemmas.Bool.{leb-true}
 use Rattle.std.proofs.Math.Dec.{leb}
 use Rattle.grid_core.proofs.BoardLemmas.{any_below-none, any_below-some}
 
-pub put_back-none : (w : ℕ) (K : Candidates) (takings : List Taking) (m n : ℕ) → n ≤ m → put_back w K takings m n ≡ K
-unfolding put_back
-put_back-none w K takings m zero le = refl
-put_back-none w K takings m (suc n) le = rw (lt-leb m n (omega arith)) refl
+-- the board before the steps of any kind from a number on
+module _ {S : Type 0} (back : Candidates → S → Candidates) (none : S) where
+  pub put_back-none : (K : Candidates) (steps : List S) (m n : ℕ) → n ≤ m → put_back back none K steps m n ≡ K
+  unfolding put_back
+  put_back-none K steps m zero le = refl
+  put_back-none K steps m (suc n) le = rw (lt-leb m n (omega arith)) refl
 
-pub put_back-last : (w : ℕ) (K : Candidates) (takings : List Taking) (m n : ℕ) → m ≤ n
-    → put_back w K takings m (n + 1) ≡ put_back w (turned_by w K (taking_at takings n)) takings m n
-unfolding put_back
-put_back-last w K takings m n le = rw (add-one, le-leb m n le) refl
+  pub put_back-last : (K : Candidates) (steps : List S) (m n : ℕ) → m ≤ n
+      → put_back back none K steps m (n + 1) ≡ put_back back none (back K (slice_index_or steps n none)) steps m n
+  unfolding put_back
+  put_back-last K steps m n le = rw (add-one, le-leb m n le) refl
 
--- what is written past the trail's end does not count
-put_back-past : (w : ℕ) (K : Candidates) (takings : List Taking) (l m n : ℕ) (t : Taking) → m ≤ n
-    → put_back w K (set takings n t) l m ≡ put_back w K takings l m
-unfolding put_back
-put_back-past w K takings l zero n t le = refl
-put_back-past w K takings l (suc m) n t le =
-    grind (arith, common_steps, get_or-set_other, put_back-past w (turned_by w K (taking_at takings m)) takings l m n t)
+  -- what is written past the trail's end does not count
+  put_back-past : (K : Candidates) (steps : List S) (l m n : ℕ) (t : S) → m ≤ n
+      → put_back back none K (set steps n t) l m ≡ put_back back none K steps l m
+  unfolding put_back
+  put_back-past K steps l zero n t le = refl
+  put_back-past K steps l (suc m) n t le =
+      grind (arith, common_steps, get_or-set_other, put_back-past (back K (slice_index_or steps m none)) steps l m n t)
 
--- what is noted gives back what was before it
-pub put_back-noted : (w : ℕ) (K L : Candidates) (takings : List Taking) (m n : ℕ) (t : Taking) → m ≤ n → n < length takings → turned_by w L t ≡ K
-    → put_back w L (set takings n t) m (n + 1) ≡ put_back w K takings m n
-put_back-noted w K L takings m n t le lt back =
-    put_back-last w L (set takings n t) m n le
-    ∙ ap (λ (u : Taking). put_back w (turned_by w L u) (set takings n t) m n) (get_or-set_same takings n t _ lt)
-    ∙ ap (λ (M : Candidates). put_back w M (set takings n t) m n) back
-    ∙ put_back-past w K takings m n n t (omega arith)
+  -- what is noted gives back what was before it
+  pub put_back-noted : (K L : Candidates) (steps : List S) (m n : ℕ) (t : S) → m ≤ n → n < length steps → back L t ≡ K
+      → put_back back none L (set steps n t) m (n + 1) ≡ put_back back none K steps m n
+  put_back-noted K L steps m n t le lt same =
+      put_back-last L (set steps n t) m n le
+      ∙ ap (λ (u : S). put_back back none (back L u) (set steps n t) m n) (get_or-set_same steps n t _ lt)
+      ∙ ap (λ (M : Candidates). put_back back none M (set steps n t) m n) same
+      ∙ put_back-past K steps m n n t (omega arith)
 
-pub put_back-undone : (w : ℕ) (K : Candidates) (takings : List Taking) (m n : ℕ) → m < n
-    → put_back w (turned_by w K (taking_at takings (n - 1))) takings m (n - 1) ≡ put_back w K takings m n
-put_back-undone w K takings m n lt = let e : n - 1 + 1 ≡ n = omega arith in
-    sym (put_back-last w K takings m (n - 1) (omega arith)) ∙ ap (put_back w K takings m) e
+  pub put_back-undone : (K : Candidates) (steps : List S) (m n : ℕ) → m < n
+      → put_back back none (back K (slice_index_or steps (n - 1) none)) steps m (n - 1) ≡ put_back back none K steps m n
+  put_back-undone K steps m n lt = let e : n - 1 + 1 ≡ n = omega arith in
+      sym (put_back-last K steps m (n - 1) (omega arith)) ∙ ap (put_back back none K steps m) e
 
 -- ---- the trail stays in order
 pub takings-none : (size : Extent) (K : Candidates) (takings : List Taking)
@@ -43,8 +46,8 @@ pub takings-none : (size : Extent) (K : Candidates) (takings : List Taking)
 takings-none size K takings long few = record {
   long = long;
   takings_in = λ k lt. absurd (omega arith);
-  room = λ m le. rw (put_back-none size.w K takings m 0 (omega arith)) (omega arith);
-  falls = λ m n le lt. rw (put_back-none size.w K takings m 0 (omega arith), put_back-none size.w K takings n 0 (omega arith)) (λ c v on. on);
+  room = λ m le. rw (put_back-none (turned_by size.w) no_taking K takings m 0 (omega arith)) (omega arith);
+  falls = λ m n le lt. rw (put_back-none (turned_by size.w) no_taking K takings m 0 (omega arith), put_back-none (turned_by size.w) no_taking K takings n 0 (omega arith)) (λ c v on. on);
 }
 
 pub takings-len : (size : Extent) (K : Candidates) (takings : List Taking) (n : ℕ) → AreTakings size K takings n → n ≤ length takings
@@ -53,7 +56,7 @@ takings-len size K takings n t = let room = t.room n (omega arith) in omega arit
 pub takings-room : (size : Extent) (K L : Candidates) (takings : List Taking) (n : ℕ)
     → AreTakings size K takings n → total (size.w * size.h) 2 L < total (size.w * size.h) 2 K
     → n < length takings
-takings-room size K L takings n t fewer = let room = rw (put_back-none size.w K takings n n (omega arith)) at (t.room n (omega arith)) in omega arith
+takings-room size K L takings n t fewer = let room = rw (put_back-none (turned_by size.w) no_taking K takings n n (omega arith)) at (t.room n (omega arith)) in omega arith
 
 pub takings-noted : (size : Extent) (K L : Candidates) (takings : List Taking) (n : ℕ) (t : Taking)
     → AreTakings size K takings n → total (size.w * size.h) 2 L < total (size.w * size.h) 2 K → IsInside L K
@@ -64,16 +67,16 @@ takings-noted size K L takings n t are fewer inside within back =
       long = rw (length-set takings n t) are.long;
       takings_in = λ k less. grind (arith, common_steps, cases_eq k n, get_or-set_same, get_or-set_other, are.takings_in k);
       room = λ m le. elim (cases_eq m (n + 1)) [
-        | inl e ↦ rw (put_back-none size.w L (set takings n t) m (n + 1) (omega arith), length-set takings n t)
-            (let room = rw (put_back-none size.w K takings n n (omega arith)) at (are.room n (omega arith)) in omega arith)
-        | inr ne ↦ rw (put_back-noted size.w K L takings m n t (omega arith) lt back, length-set takings n t) (are.room m (omega arith))
+        | inl e ↦ rw (put_back-none (turned_by size.w) no_taking L (set takings n t) m (n + 1) (omega arith), length-set takings n t)
+            (let room = rw (put_back-none (turned_by size.w) no_taking K takings n n (omega arith)) at (are.room n (omega arith)) in omega arith)
+        | inr ne ↦ rw (put_back-noted (turned_by size.w) no_taking K L takings m n t (omega arith) lt back, length-set takings n t) (are.room m (omega arith))
       ];
       falls = λ m k le least. elim (cases_eq m (n + 1)) [
         | inl e ↦ let same : k ≡ m = omega arith in rw same (λ c v on. on)
-        | inr ne ↦ rw (put_back-noted size.w K L takings m n t (omega arith) lt back) (elim (cases_eq k (n + 1)) [
-          | inl e ↦ rw (put_back-none size.w L (set takings n t) k (n + 1) (omega arith)) (λ c v on.
-              are.falls m n (omega arith) (omega arith) c v (rw (put_back-none size.w K takings n n (omega arith)) (inside c v on)))
-          | inr other ↦ rw (put_back-noted size.w K L takings k n t (omega arith) lt back) (are.falls m k le (omega arith))
+        | inr ne ↦ rw (put_back-noted (turned_by size.w) no_taking K L takings m n t (omega arith) lt back) (elim (cases_eq k (n + 1)) [
+          | inl e ↦ rw (put_back-none (turned_by size.w) no_taking L (set takings n t) k (n + 1) (omega arith)) (λ c v on.
+              are.falls m n (omega arith) (omega arith) c v (rw (put_back-none (turned_by size.w) no_taking K takings n n (omega arith)) (inside c v on)))
+          | inr other ↦ rw (put_back-noted (turned_by size.w) no_taking K L takings k n t (omega arith) lt back) (are.falls m k le (omega arith))
         ])
       ];
     }
@@ -83,13 +86,13 @@ pub takings-undone : (size : Extent) (K : Candidates) (takings : List Taking) (n
 takings-undone size K takings n pos are = record {
   long = are.long;
   takings_in = λ k lt. are.takings_in k (omega arith);
-  room = λ m le. rw (put_back-undone size.w K takings m n (omega arith)) (are.room m (omega arith));
-  falls = λ m k le lt. rw (put_back-undone size.w K takings m n (omega arith), put_back-undone size.w K takings k n (omega arith)) (are.falls m k le (omega arith));
+  room = λ m le. rw (put_back-undone (turned_by size.w) no_taking K takings m n (omega arith)) (are.room m (omega arith));
+  falls = λ m k le lt. rw (put_back-undone (turned_by size.w) no_taking K takings m n (omega arith), put_back-undone (turned_by size.w) no_taking K takings k n (omega arith)) (are.falls m k le (omega arith));
 }
 
 -- a cell that none of the takings from m on covers gets nothing back
 pub put_back-off : (w : ℕ) (K : Candidates) (takings : List Taking) (m n c v : ℕ)
-    → ((k : ℕ) → m ≤ k → k < n → covers w (taking_at takings k) c v ≡ false) → put_back w K takings m n c v ≡ K c v
+    → ((k : ℕ) → m ≤ k → k < n → covers w (taking_at takings k) c v ≡ false) → with_first w K takings m n c v ≡ K c v
 unfolding put_back turned_by differ
 put_back-off w K takings m zero c v off = refl
 put_back-off w K takings m (suc n) c v off = elim (cases_Bool (leb m n)) [
@@ -103,7 +106,7 @@ put_back-off w K takings m (suc n) c v off = elim (cases_Bool (leb m n)) [
 
 -- a value that came back with the takings from m on was covered by one of them; so what is true of the lines of all is true of its
 pub covered_since : (w : ℕ) (K : Candidates) (takings : List Taking) (m n c v : ℕ) {A : Type 0}
-    → put_back w K takings m n c v ≡ true → K c v ≡ false
+    → with_first w K takings m n c v ≡ true → K c v ≡ false
     → ((k : ℕ) → m ≤ k → k < n → v ≡ (taking_at takings k).value → crosses (taking_at takings k).line (taking_at takings k).bits (c / w) (c % w) ≡ true → A) → A
 unfolding covers
 covered_since w K takings m n c v on off each = elim (cases_Bool (any_below (λ k. leb m k && covers w (taking_at takings k) c v) n)) [

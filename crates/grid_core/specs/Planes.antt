@@ -2,7 +2,7 @@
 -- column. The words of line k for the values 0 and 1 are those with the numbers 2 * k and 2 * k + 1.
 use Rattle.std.specs.Prelude.{◌≡◌, ℕ, zero, suc, ◌+◌, ◌*◌, ◌/◌, ◌%◌, ◌<◌, ◌≤◌, Bool, true, false, not, ◌&&◌, ◌==◌, nat_lt, nat_le, List, length, map, slice_index, slice_index_or, if◌then◌else◌}
 use Rattle.std.specs.Global.{Vec}
-use Rattle.grid_core.specs.Candidates.{Candidates, IsInside, total}
+use Rattle.grid_core.specs.Candidates.{Candidates, IsInside, put_back, total}
 use Rattle.grid_core.specs.Extent.{Extent, IsExtent}
 use Rattle.grid_core.specs.Words.{has_bit, differ}
 use Rattle.grid_core.specs.declared.planes.line.Line.{Line}
@@ -70,14 +70,12 @@ abbrev pub taking_at : List Taking → ℕ → Taking
 taking_at takings k = slice_index_or takings k no_taking
 
 -- the board when the first m of these n were taken, and no more
-unfoldable pub put_back : ℕ → Candidates → List Taking → ℕ → ℕ → Candidates
-put_back w K takings m zero = K
-put_back w K takings m (suc n) =
-    if nat_le m n then put_back w (turned_by w K (taking_at takings n)) takings m n else K
+abbrev pub with_first : ℕ → Candidates → List Taking → ℕ → ℕ → Candidates
+with_first w K takings m n = put_back (turned_by w) no_taking K takings m n
 
 -- the board when the trail had length n
 abbrev pub back_at : Layers → ℕ → Candidates
-back_at p n = put_back p.size.w (has p) p.takings n p.len
+back_at p n = with_first p.size.w (has p) p.takings n p.len
 
 -- a line of the grid, with places in its crossing lines alone
 abbrev pub IsLineIn : Extent → Line → ℕ → Type 0
@@ -98,9 +96,9 @@ pub record AreTakings (size : Extent) (K : Candidates) (takings : List Taking) (
   pub long : size.w * size.h * 2 ≤ length takings
   pub takings_in : (k : ℕ) → k < len → IsTakingIn size (taking_at takings k)
   pub room : (n : ℕ) → n ≤ len
-      → total (size.w * size.h) 2 (put_back size.w K takings n len) + n ≤ length takings
+      → total (size.w * size.h) 2 (with_first size.w K takings n len) + n ≤ length takings
   pub falls : (m n : ℕ) → m ≤ n → n ≤ len
-      → IsInside (put_back size.w K takings n len) (put_back size.w K takings m len)
+      → IsInside (with_first size.w K takings n len) (with_first size.w K takings m len)
 
 -- words that hold a line, of a grid of a lawful size, with their trail: two for each line that such words can have
 pub record ArePlanes (room : ℕ) (p : Layers) : Type 0 where

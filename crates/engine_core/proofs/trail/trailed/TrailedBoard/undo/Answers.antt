@@ -1,5 +1,6 @@
-use Rattle.engine_core.proofs.Common.{arith, get_or_read_under, sym, ◌-◌, ◌∙◌}
-use Rattle.engine_core.proofs.TrailLemmas.{IsUndone, put_back-none, undone, trail-len}
+use Rattle.engine_core.proofs.Common.{arith, get_or_read_under, given_back, has, sym, ◌-◌, ◌∙◌}
+use Rattle.engine_core.proofs.TrailLemmas.{IsUndone, undone, trail-len}
+use Rattle.grid_core.proofs.TakingLemmas.{put_back-none}
 use Rattle.engine_core.proofs.trail.trailed.TrailedBoard.undo.Goals as goal
 use Rattle.engine_core.proofs.trail.trailed.TrailedBoard.undo.Goals.{After-restore_set}
 
@@ -33,7 +34,7 @@ returns c =
     record {
       shape = i.shape;
       same_room = i.same_room;
-      here = sym (put_back-none t.changes.items c.args.mark t.len (omega arith)) ∙ i.back c.args.mark (omega arith);
+      here = sym (put_back-none given_back (0, 0) (has t.board) t.changes.items c.args.mark t.len (omega arith)) ∙ i.back c.args.mark (omega arith);
       len = (omega (arith, i.low));
       back = λ m le. i.back m le;
     }
