@@ -53,7 +53,7 @@ unfoldable pub use Rattle.engine_core.specs.Sets.{set_of_bits}
 pub use Rattle.pattern_core.specs.LineRules.{numbers_in}
 pub use Rattle.pattern_core.specs.LineLaws.{column_has, different_places, has_runs-from, has_runs-is, in_grid, is_solution-from, is_solution-is}
 pub use Rattle.pattern_core.specs.LineLaws.{is_solution-line, line_of_solution, line_rules-alive, line_rules-lawful, lines_with, row_has, solution_from_lines}
-pub use Rattle.pattern_core.specs.LinePlanes.{AreLinesRested, AreLinesWithin, HasLineRoom, IsStart, crossed_by, house_of}
+pub use Rattle.pattern_core.specs.LinePlanes.{AreLinesRested, AreLinesWithin, HasLineRoom, IsStart, crossed_by, line_house}
 pub use Rattle.pattern_core.specs.LinePlanes.{is_marked, is_same, line_of, set_at, sets_by}
 unfoldable pub use Rattle.pattern_core.specs.LinePlanes.{has_lost, waiting}
 pub use Rattle.pattern_core.specs.LineRules.{line_rules}

@@ -1,5 +1,5 @@
 -- Visits of a line, on boards and on planes.
-use Rattle.pattern_core.proofs.Common.{AreClues, ArePlanes, ArePositive, Bool, Candidates, Column, Decision, Extent, FitsIn, IsAlive, IsBitsOf, IsBoardOf, IsClue, IsDead, IsDecided, IsDecidedBy, IsExtent, IsLawful, IsPattern, IsWithin, Layers, Layout, Line, List, Needs, Pattern, Row, RuleSystem, Taking, [], after, and-true, and_from, and_parts, and_right, any_below, any_below-here, any_below-none, any_below-some, ap, ap₂, arith, at_line, bits-of_values, cases_Bool, cases_eq, cases_lt, clue_of, common_steps, cond, count_below, count_below-none, count_below-pos, count_below-same, counts_of, div-add-mod', div-mul-add, div_below, eq-eqb, eqb, eqb-true, false, false_from_ne_true, fun_ext, get_or, has-within, has_bit, has_lost, has_place, has_place-at, has_place-here, has_runs, house_of, in_grid, inl, inr, is_dead-each, is_dead-here, is_dead-not, kept-decided, kept_in, le-ltb, length, length-line_places, line_cells, line_len, line_places, line_rules, line_rules-lawful, line_short, lines_beside, lines_of, lt-ltb, mod-mul-add, mod_below, needs_of, not, number_of, or_cases, place_in_column, place_in_row, refl, sets-bits, sets_by, slice_index, strikes_at, strikes_by_fillings, subst, suc, sym, true, true≢false, used, visited-after, zero, ℕ, ◌%◌, ◌&&◌, ◌*◌, ◌+◌, ◌-◌, ◌/◌, ◌<◌, ◌||◌, ◌∙◌, ◌∷◌, ◌≡◌, ◌≤◌}
+use Rattle.pattern_core.proofs.Common.{AreClues, ArePlanes, ArePositive, Bool, Candidates, Column, Decision, Extent, FitsIn, IsAlive, IsBitsOf, IsBoardOf, IsClue, IsDead, IsDecided, IsDecidedBy, IsExtent, IsLawful, IsPattern, IsWithin, Layers, Layout, Line, List, Needs, Pattern, Row, RuleSystem, Taking, [], after, and-true, and_from, and_parts, and_right, any_below, any_below-here, any_below-none, any_below-some, ap, ap₂, arith, at_line, bits-of_values, cases_Bool, cases_eq, cases_lt, clue_of, common_steps, cond, count_below, count_below-none, count_below-pos, count_below-same, counts_of, div-add-mod', div-mul-add, div_below, eq-eqb, eqb, eqb-true, false, false_from_ne_true, fun_ext, get_or, has-within, has_bit, has_lost, has_place, has_place-at, has_place-here, has_runs, line_house, in_grid, inl, inr, is_dead-each, is_dead-here, is_dead-not, kept-decided, kept_in, le-ltb, length, length-line_places, line_cells, line_len, line_places, line_rules, line_rules-lawful, line_short, lines_beside, lines_of, lt-ltb, mod-mul-add, mod_below, needs_of, not, number_of, or_cases, place_in_column, place_in_row, refl, sets-bits, sets_by, slice_index, strikes_at, strikes_by_fillings, subst, suc, sym, true, true≢false, used, visited-after, zero, ℕ, ◌%◌, ◌&&◌, ◌*◌, ◌+◌, ◌-◌, ◌/◌, ◌<◌, ◌||◌, ◌∙◌, ◌∷◌, ◌≡◌, ◌≤◌}
 use Rattle.grid_core.specs.Candidates.{IsWithin as HasCells}
 unfoldable use Rattle.grid_core.specs.Board.{has as on_board}
 unfoldable use Rattle.grid_core.specs.Planes.{covers, crosses, has, without_taking}
@@ -18,16 +18,16 @@ abbrev pub cell_of : Extent → Line → ℕ → ℕ
 cell_of size (Row y) k = y * size.w + k
 cell_of size (Column x) k = k * size.w + x
 
-pub house-in : (size : Extent) (line : Line) → number_of line < lines_beside size line → house_of size line < lines_of size
+pub house-in : (size : Extent) (line : Line) → number_of line < lines_beside size line → line_house size line < lines_of size
 house-in size (Row y) lt = omega arith
 house-in size (Column x) lt = omega arith
 
-pub line-long : (size : Extent) (line : Line) → number_of line < lines_beside size line → line_cells size (house_of size line) ≡ line_len size line
+pub line-long : (size : Extent) (line : Line) → number_of line < lines_beside size line → line_cells size (line_house size line) ≡ line_len size line
 line-long size (Row y) lt = grind (arith, common_steps, cases_Bool)
 line-long size (Column x) lt = grind (arith, common_steps, cases_Bool, lt-ltb)
 
 pub cell-at : (size : Extent) (line : Line) (k : ℕ) → number_of line < lines_beside size line → k < line_len size line
-    → slice_index (line_places size (house_of size line)) k ≡ cell_of size line k
+    → slice_index (line_places size (line_house size line)) k ≡ cell_of size line k
 cell-at size (Row y) k lt less = let e : (size.w + y) - size.w ≡ y = omega arith in place_in_row size (size.w + y) k (omega arith) less ∙ ap (λ n. n * size.w + k) e
 cell-at size (Column x) k lt less = place_in_column size x k lt less
 
@@ -73,12 +73,12 @@ two-counted f = omega arith
 module _ (pat : Pattern) (p : Layers) (line : Line) (same : p.size ≡ pat.size) (lt : number_of line < lines_beside pat.size line)
     (some : 0 < pat.size.w) (within : HasCells (pat.size.w * pat.size.h) 2 (has p)) (white black white' black' : ℕ)
     (white_is : (k : ℕ) → has_bit white k ≡ at_line p line 0 k) (black_is : (k : ℕ) → has_bit black k ≡ at_line p line 1 k)
-    (d : IsDecidedBy (clue_of pat (house_of pat.size line)) (sets_by white black (line_len pat.size line)) (sets_by white' black' (line_len pat.size line))) where
+    (d : IsDecidedBy (clue_of pat (line_house pat.size line)) (sets_by white black (line_len pat.size line)) (sets_by white' black' (line_len pat.size line))) where
   abbrev size : Extent
   size = pat.size
 
   abbrev house : ℕ
-  house = house_of size line
+  house = line_house size line
 
   abbrev places : List ℕ
   places = line_places size house

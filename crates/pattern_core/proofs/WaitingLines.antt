@@ -1,5 +1,5 @@
 -- Which lines wait: those that have a place, and after a visit.
-use Rattle.pattern_core.proofs.Common.{AreLinesRested, AreLinesWithin, Bool, Candidates, Column, Extent, IsAlive, IsClosedBut, IsExtent, IsIdle, IsNext, IsStart, IsWoken, Line, List, None, Option, Pattern, Row, Some, LinesWaiting, alive_but, and_from, and_parts, any_below, any_below-here, any_below-none, any_below-some, ap, arith, but, calls, cases_Bool, cases_eq, cases_lt, column_has, common_steps, counts_of, crossed_by, div-add-mod', div-mul-add, eq-eqb, eqb, eqb-true, false, false_from_ne_true, false≢true, has_bit, has_lost, has_place, house_of, inl, inr, is_marked, is_same, le-ltb, length, length-line_places, line_len, line_of, line_places, line_rules, line_rules-alive, line_rules-lawful, lines_beside, lines_of, lines_with, lt-ltb, ltb-true, mod-lt, mod-mul-add, mul-le-mul_right, ne_eqb, not, number_of, or_cases, or_left, or_parts, or_right, place-in, refl, rested_around, row_has, sym, true, true≢false, waiting, woken, ℕ, ◌%◌, ◌&&◌, ◌*◌, ◌+◌, ◌-◌, ◌/◌, ◌<◌, ◌||◌, ◌∙◌, ◌≡◌, ◌≤◌, ◌⊎◌}
+use Rattle.pattern_core.proofs.Common.{AreLinesRested, AreLinesWithin, Bool, Candidates, Column, Extent, IsAlive, IsClosedBut, IsExtent, IsIdle, IsNext, IsStart, IsWoken, Line, List, None, Option, Pattern, Row, Some, LinesWaiting, alive_but, and_from, and_parts, any_below, any_below-here, any_below-none, any_below-some, ap, arith, but, calls, cases_Bool, cases_eq, cases_lt, column_has, common_steps, counts_of, crossed_by, div-add-mod', div-mul-add, eq-eqb, eqb, eqb-true, false, false_from_ne_true, false≢true, has_bit, has_lost, has_place, line_house, inl, inr, is_marked, is_same, le-ltb, length, length-line_places, line_len, line_of, line_places, line_rules, line_rules-alive, line_rules-lawful, lines_beside, lines_of, lines_with, lt-ltb, ltb-true, mod-lt, mod-mul-add, mul-le-mul_right, ne_eqb, not, number_of, or_cases, or_left, or_parts, or_right, place-in, refl, rested_around, row_has, sym, true, true≢false, waiting, woken, ℕ, ◌%◌, ◌&&◌, ◌*◌, ◌+◌, ◌-◌, ◌/◌, ◌<◌, ◌||◌, ◌∙◌, ◌≡◌, ◌≤◌, ◌⊎◌}
 use Rattle.pattern_core.proofs.LineTakings.{cell-at, cell_of, line-long}
 
 module _ (size : Extent) {w place : ℕ} (from : ℕ) (same : w ≡ size.w) (within : place < size.w * size.h) where
@@ -43,17 +43,17 @@ none-marked room bits waits (Row y) columns rows lt = any_below-none (has_bit (b
 none-marked room bits waits (Column x) columns rows lt = any_below-none (has_bit (bits waits.columns)) room columns x lt
 
 -- ---- lines by their numbers as houses
-pub house-of-line : (size : Extent) (j : ℕ) → house_of size (line_of size j) ≡ j
+pub house-of-line : (size : Extent) (j : ℕ) → line_house size (line_of size j) ≡ j
 house-of-line size j = grind (arith, common_steps, cases_lt j size.w, lt-ltb j size.w, le-ltb j size.w)
 
-pub line-of-house : (size : Extent) (line : Line) → number_of line < lines_beside size line → line_of size (house_of size line) ≡ line
+pub line-of-house : (size : Extent) (line : Line) → number_of line < lines_beside size line → line_of size (line_house size line) ≡ line
 line-of-house size (Column x) lt = rw (lt-ltb _ _ lt) refl
 line-of-house size (Row y) lt = let e : (size.w + y) - size.w ≡ y = omega arith in rw (le-ltb (size.w + y) size.w (omega arith), e) refl
 
 pub line-in : (size : Extent) (j : ℕ) → j < lines_of size → number_of (line_of size j) < lines_beside size (line_of size j)
 line-in size j lt = grind (arith, common_steps, cases_lt j size.w, lt-ltb j size.w, le-ltb j size.w)
 
-pub same-house : (size : Extent) (line : Line) (j : ℕ) → number_of line < lines_beside size line → is_same line (line_of size j) ≡ eqb j (house_of size line)
+pub same-house : (size : Extent) (line : Line) (j : ℕ) → number_of line < lines_beside size line → is_same line (line_of size j) ≡ eqb j (line_house size line)
 same-house size (Column x) j lt = grind (arith, common_steps, cases_lt j size.w, lt-ltb j size.w, le-ltb j size.w, cases_eq j x, eq-eqb, ne_eqb)
 same-house size (Row y) j lt = grind (arith, common_steps, cases_lt j size.w, lt-ltb j size.w, le-ltb j size.w, cases_eq j (size.w + y), cases_eq (j - size.w) y, eq-eqb, ne_eqb)
 
@@ -65,7 +65,7 @@ is-same (Row y) (Column x) on = absurd (false≢true on)
 is-same (Row y) (Row z) on = ap Row (eqb-true _ _ on)
 
 same-number : (size : Extent) (line other : Line) → number_of line < lines_beside size line → number_of other < lines_beside size other
-    → house_of size other ≡ house_of size line → is_same line other ≡ true
+    → line_house size other ≡ line_house size line → is_same line other ≡ true
 same-number size (Column x) (Column z) lt less e = eq-eqb _ _ e
 same-number size (Column x) (Row y) lt less e = absurd (omega arith)
 same-number size (Row y) (Column x) lt less e = absurd (omega arith)
@@ -74,17 +74,17 @@ same-number size (Row y) (Row z) lt less e = eq-eqb z y (omega arith)
 -- ---- what waits at the start
 -- of the first n lines those without a mark strike nothing, and no other has one
 pub record AreWeighed {W : Type 0} (bits : W → ℕ) (p : Pattern) (waits : LinesWaiting W) (n : ℕ) : Type 0 where
-  pub idle : (line : Line) → number_of line < lines_beside p.size line → house_of p.size line < n → is_marked bits waits line ≡ false
-      → IsIdle (line_rules p) (house_of p.size line) (line_rules p).start
-  pub within : (line : Line) → is_marked bits waits line ≡ true → (number_of line < lines_beside p.size line) × (house_of p.size line < n)
+  pub idle : (line : Line) → number_of line < lines_beside p.size line → line_house p.size line < n → is_marked bits waits line ≡ false
+      → IsIdle (line_rules p) (line_house p.size line) (line_rules p).start
+  pub within : (line : Line) → is_marked bits waits line ≡ true → (number_of line < lines_beside p.size line) × (line_house p.size line < n)
 
 pub weighed-more : {W : Type 0} {bits : W → ℕ} {p : Pattern} {waits : LinesWaiting W} (waits' : LinesWaiting W) (line : Line) (on : Bool) {n : ℕ} → number_of line < lines_beside p.size line
-    → house_of p.size line ≡ n → ((other : Line) → is_marked bits waits' other ≡ (is_marked bits waits other || (on && is_same line other)))
+    → line_house p.size line ≡ n → ((other : Line) → is_marked bits waits' other ≡ (is_marked bits waits other || (on && is_same line other)))
     → (on ≡ false → IsIdle (line_rules p) n (line_rules p).start) → AreWeighed bits p waits n → AreWeighed bits p waits' (n + 1)
 weighed-more {bits} {p} {waits} waits' line on {n} lt is marks idle are = record {
   idle = λ other less below off.
       let parts = or_parts (is_marked bits waits other) (on && is_same line other) (sym (marks other) ∙ off) in
-      elim (cases_eq (house_of p.size other) n) [
+      elim (cases_eq (line_house p.size other) n) [
         | inl e ↦ (
             let same = same-number p.size line other lt less (e ∙ sym is) in
             rw e (idle (grind (arith, common_steps, cases_Bool on, same, parts.1))))
@@ -135,7 +135,7 @@ place-first bits p K none one both {w} place {x} {y} extent same ex ey off first
 
 -- ---- a line's mark, by its number as a house
 pub waits-line : {W : Type 0} (bits : W → ℕ) (size : Extent) (waits : LinesWaiting W) (line : Line) → number_of line < lines_beside size line
-    → waiting bits size waits (house_of size line) ≡ is_marked bits waits line
+    → waiting bits size waits (line_house size line) ≡ is_marked bits waits line
 unfolding waiting
 waits-line bits size waits line lt = ap (is_marked bits waits) (line-of-house size line lt)
 
@@ -170,19 +170,19 @@ module _ (size : Extent) (line : Line) (lt : number_of line < lines_beside size 
       go (Row y) (inl less) on = (j, refl, rw (lt-ltb _ _ less) at on)
       go (Row y) (inr le) on = absurd (false≢true (rw (le-ltb _ _ le) at on))
 
-  cross-other : {k : ℕ} → k < line_len size line → eqb (cross_of size line k) (house_of size line) ≡ false
+  cross-other : {k : ℕ} → k < line_len size line → eqb (cross_of size line k) (line_house size line) ≡ false
   cross-other {k} less = go line lt less
     where
-      go : (line : Line) → number_of line < lines_beside size line → k < line_len size line → eqb (cross_of size line k) (house_of size line) ≡ false
+      go : (line : Line) → number_of line < lines_beside size line → k < line_len size line → eqb (cross_of size line k) (line_house size line) ≡ false
       go (Column x) lt less = ne_eqb (size.w + k) x (λ e. omega arith)
       go (Row y) lt less = ne_eqb k (size.w + y) (λ e. omega arith)
 
   -- a cell of the line lies in the line and in the one that crosses it there
-  placed : (j k : ℕ) → k < line_len size line → has_place (line_places size j) (cell_of size line k) ≡ (eqb j (house_of size line) || eqb j (cross_of size line k))
+  placed : (j k : ℕ) → k < line_len size line → has_place (line_places size j) (cell_of size line k) ≡ (eqb j (line_house size line) || eqb j (cross_of size line k))
   placed j k less = go line lt less
     where
       go : (line : Line) → number_of line < lines_beside size line → k < line_len size line
-          → has_place (line_places size j) (cell_of size line k) ≡ (eqb j (house_of size line) || eqb j (cross_of size line k))
+          → has_place (line_places size j) (cell_of size line k) ≡ (eqb j (line_house size line) || eqb j (cross_of size line k))
       go (Column x) lt less =
           sym (its_lines size 0 refl (place-in size.w size.h k x less lt) j) ∙ rw (mod-mul-add k size.w x lt, div-mul-add k size.w x lt) refl
       go (Row y) lt less =
@@ -191,9 +191,9 @@ module _ (size : Extent) (line : Line) (lt : number_of line < lines_beside size 
 
 -- ---- what waits after a visit
 module _ (p : Pattern) (line : Line) (lt : number_of line < lines_beside p.size line) (K K' : Candidates) (lost : ℕ)
-    (is : (k : ℕ) → has_bit lost k ≡ has_lost (line_rules p) (house_of p.size line) K K' k) where
+    (is : (k : ℕ) → has_bit lost k ≡ has_lost (line_rules p) (line_house p.size line) K K' k) where
   abbrev house : ℕ
-  house = house_of p.size line
+  house = line_house p.size line
 
   abbrev places : List ℕ
   places = line_places p.size house

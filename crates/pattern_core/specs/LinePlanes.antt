@@ -14,9 +14,9 @@ use Rattle.pattern_core.specs.declared.planes.waits.LinesWaiting.{LinesWaiting}
 
 -- ---- lines
 -- the number of a line as a house: the columns come first
-abbrev pub house_of : Extent → Line → ℕ
-house_of size (Column x) = x
-house_of size (Row y) = size.w + y
+abbrev pub line_house : Extent → Line → ℕ
+line_house size (Column x) = x
+line_house size (Row y) = size.w + y
 
 abbrev pub is_same : Line → Line → Bool
 is_same (Column x) (Column z) = z == x
@@ -102,7 +102,7 @@ IsLineVisited bits p h K K' (Some lost) = (K' ≡ after p h K) × IsAlive p K'
 -- a visit of that line of the puzzle
 abbrev pub IsVisitOf : {W : Type 0} → (W → ℕ) → Pattern → Line → Layers → Layers → Option W → Type 0
 IsVisitOf bits p line from to lost =
-    IsLineVisited bits (line_rules p) (house_of p.size line) (has from) (has to) lost
+    IsLineVisited bits (line_rules p) (line_house p.size line) (has from) (has to) lost
 
 -- ---- where a closing begins
 -- a line that does not wait strikes nothing from the board

@@ -8,10 +8,10 @@ ghost use Rattle.pattern_core.specs.Lines.{clue_of, has_runs, IsRoomy};
 use crate::meets::meets;
 use crate::track::{SpelledClue, measured};
 use gameid_core::PatternPuzzle;
-use grid_core::{Grid, Size};
+use grid_core::{Grid, MAX_SIDE, Size};
 
 /// The most cells of a line.
-pub(crate) const LONGEST: usize = 120;
+pub(crate) const LONGEST: usize = MAX_SIDE as usize;
 
 /// The rows of a table for a line, in words of either width.
 #[derive(Drop)]

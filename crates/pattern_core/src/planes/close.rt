@@ -14,7 +14,7 @@ use engine_core::{Closing, Taken};
 use grid_core::{Line, Planes, Word};
 
 /// The lines that wait, and that one where `on`.
-fn with_if<W: Word>(waits: LinesWaiting<W>, line: Line, on: bool) -> LinesWaiting<W>
+fn waiting_if<W: Word>(waits: LinesWaiting<W>, line: Line, on: bool) -> LinesWaiting<W>
     requires { number_of line < W.room }
     ensures { AreLinesMarked W.bits waits (λ other. on && is_same line other) result }
 {
@@ -31,10 +31,10 @@ fn at_start<W: Word>(rules: &PatternLines) -> LinesWaiting<W>
     let w = usize::from(size.w());
     let mut waits = LinesWaiting::none();
     for x in 0..size.w() {
-        waits = with_if(waits, Line::Column(x), rules.may_strike(usize::from(x)));
+        waits = waiting_if(waits, Line::Column(x), rules.may_strike(usize::from(x)));
     }
     for y in 0..size.h() {
-        waits = with_if(waits, Line::Row(y), rules.may_strike(w + usize::from(y)));
+        waits = waiting_if(waits, Line::Row(y), rules.may_strike(w + usize::from(y)));
     }
     waits
 }

@@ -2,7 +2,7 @@
 
 ghost use Rattle.std.specs.Prelude.{◌<◌, ◌≡◌, None};
 ghost use Rattle.pattern_core.specs.Below.{IsAlive, IsFurther, has, lines_beside, number_of};
-ghost use Rattle.pattern_core.specs.LinePlanes.{IsVisitOf, house_of};
+ghost use Rattle.pattern_core.specs.LinePlanes.{IsVisitOf, line_house};
 ghost use Rattle.pattern_core.specs.LineRules.{line_rules};
 
 use crate::line_scratch::LineScratch;
@@ -11,8 +11,8 @@ use crate::planes::filter::Cells;
 use grid_core::{Line, Planes, Size, Word, line_len};
 
 /// The number of a line as a house: the columns come first.
-fn house_of(size: Size, line: Line) -> usize
-    ensures { result ≡ house_of size line }
+fn line_house(size: Size, line: Line) -> usize
+    ensures { result ≡ line_house size line }
 {
     match line {
         Line::Column(x) => usize::from(x),
@@ -36,7 +36,7 @@ pub(crate) fn visit<W: Word>(
     ensures further { IsFurther planes.old planes.new }
 {
     let size = rules.size();
-    let house = house_of(size, line);
+    let house = line_house(size, line);
     let count = line_len(size, house);
     let now = Cells {
         white: planes.line(line, 0),

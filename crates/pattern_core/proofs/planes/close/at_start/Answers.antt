@@ -6,7 +6,7 @@ pub loop-x-preserved : goal.loop-x-preserved
 loop-x-preserved g c =
     let wide : c.w-x-end.result ≡ c.args.rules.now.pattern.size.w = rw c.size-size.ensures at c.w-x-end.ensures.value in
     weighed-more _ (Column c.loop-x.x) c.may_strike.result (omega (arith, c.loop-x-test.true, wide)) refl
-    c.with_if-waits.ensures (λ off. rw c.from.ensures at (c.may_strike.ensures off)) c.loop-x.invariant
+    c.waiting_if-waits.ensures (λ off. rw c.from.ensures at (c.may_strike.ensures off)) c.loop-x.invariant
 
 pub loop-y-init : goal.loop-y-init
 loop-y-init g c =
@@ -21,7 +21,7 @@ loop-y-preserved g c =
     let wide : c.from-w.result ≡ size.w = c.from-w.ensures ∙ (rw c.size-size.ensures at c.w.ensures.value) in
     let e : size.w + (c.loop-y.y + 1) ≡ size.w + c.loop-y.y + 1 = omega arith in
     rw e (weighed-more _ (Row c.loop-y.y) c.may_strike-in-loop-y.result (omega (arith, c.loop-y-test.true, high)) refl
-    c.with_if-waits-in-loop-y.ensures (λ off. rw (wide, c.from-in-loop-y.ensures) at (c.may_strike-in-loop-y.ensures off)) c.loop-y.invariant)
+    c.waiting_if-waits-in-loop-y.ensures (λ off. rw (wide, c.from-in-loop-y.ensures) at (c.may_strike-in-loop-y.ensures off)) c.loop-y.invariant)
 
 pub returns : goal.returns
 returns g c =

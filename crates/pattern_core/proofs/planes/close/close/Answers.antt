@@ -1,4 +1,4 @@
-use Rattle.pattern_core.proofs.Common.{IsClosing, IsWithin, [], after, arith, closing-dead, closing-open, further-more, further-none, house_of, length-append, line_rules, line_rules-lawful, refl, room, running-alive, running-first, running-turn, true, true≢false, waiting, within_inside, ◌*◌, ◌++◌, ◌<◌, ◌∙◌, ◌∷◌, ◌≡◌}
+use Rattle.pattern_core.proofs.Common.{IsClosing, IsWithin, [], after, arith, closing-dead, closing-open, further-more, further-none, line_house, length-append, line_rules, line_rules-lawful, refl, room, running-alive, running-first, running-turn, true, true≢false, waiting, within_inside, ◌*◌, ◌++◌, ◌<◌, ◌∙◌, ◌∷◌, ◌≡◌}
 use Rattle.grid_core.specs.Planes.{has, lines_beside, number_of}
 use Rattle.engine_core.specs.declared.mode.Closing.TheVariants.{Dead, Open}
 use Rattle.engine_core.proofs.AroundLemmas.{closed-in, taken-dead, taken-open}
@@ -26,7 +26,7 @@ visit-requires-clause-alive g c = running-alive c.loop-line.invariant.running
 line-in : (g : _) (c : In-Some g) → number_of c.in-Some.line < lines_beside c.args.rules.now.pattern.size c.in-Some.line
 line-in g c = c.loop-line.invariant.within c.in-Some.line (rw c.in-Some.is at c.next.ensures).0
 
-waits : (g : _) (c : In-Some g) → waiting g.W.Word.bits c.args.rules.now.pattern.size c.loop-line.waits (house_of c.args.rules.now.pattern.size c.in-Some.line) ≡ true
+waits : (g : _) (c : In-Some g) → waiting g.W.Word.bits c.args.rules.now.pattern.size c.loop-line.waits (line_house c.args.rules.now.pattern.size c.in-Some.line) ≡ true
 waits g c = waits-line g.W.Word.bits c.args.rules.now.pattern.size c.loop-line.waits c.in-Some.line (line-in g c) ∙ (rw c.in-Some.is at c.next.ensures).0
 
 -- the boards have no other cells and values than the puzzle's
@@ -35,14 +35,14 @@ cells g c = within_inside _ 2 (has c.loop-line.planes) (has c.args.planes.now) c
 
 -- a visit that would leave a cell without a value ends the closing
 dead : (g : _) (c : In_default-visit g) → number_of c.in-Some.line < lines_beside c.args.rules.now.pattern.size c.in-Some.line
-    → waiting g.W.Word.bits c.args.rules.now.pattern.size c.loop-line.waits (house_of c.args.rules.now.pattern.size c.in-Some.line) ≡ true
+    → waiting g.W.Word.bits c.args.rules.now.pattern.size c.loop-line.waits (line_house c.args.rules.now.pattern.size c.in-Some.line) ≡ true
     → IsClosing (line_rules c.args.rules.now.pattern) (has c.args.planes.now)
-    (after (line_rules c.args.rules.now.pattern) (house_of c.args.rules.now.pattern.size c.in-Some.line) (has c.loop-line.planes)) Dead
-    (c.loop-line.invariant.visits ++ house_of c.args.rules.now.pattern.size c.in-Some.line ∷ []) 0
+    (after (line_rules c.args.rules.now.pattern) (line_house c.args.rules.now.pattern.size c.in-Some.line) (has c.loop-line.planes)) Dead
+    (c.loop-line.invariant.visits ++ line_house c.args.rules.now.pattern.size c.in-Some.line ∷ []) 0
 dead g c lt on =
     let pat = c.args.rules.now.pattern in let i = c.loop-line.invariant in
     closing-dead (line_rules pat) (line_rules-lawful pat c.args.rules.now.extent) (has c.args.planes.now) i.visits (has c.loop-line.planes) _ _
-    (house_of pat.size c.in-Some.line) refl c.first-waits.ensures.fits.cells i.running (house-in pat.size c.in-Some.line lt) on refl
+    (line_house pat.size c.in-Some.line) refl c.first-waits.ensures.fits.cells i.running (house-in pat.size c.in-Some.line lt) on refl
     (rw c.in_default-visit.is at c.visit.ensures.visited)
 
 pub returns-in_default-visit-clause-taken : goal.returns-in_default-visit-clause-taken
@@ -53,7 +53,7 @@ pub returns-in_default-visit-clause-turns : goal.returns-in_default-visit-clause
 returns-in_default-visit-clause-turns g c =
     let at = goal.at.returns-in_default-visit-clause-turns g c in
     closed-in (dead g at.In_default-visit (line-in g at.In-Some) (waits g at.In-Some))
-    (λ _. omega (arith, length-append c.loop-line.invariant.visits (house_of c.args.rules.now.pattern.size c.in-Some.line ∷ []), c.loop-line.invariant.counted))
+    (λ _. omega (arith, length-append c.loop-line.invariant.visits (line_house c.args.rules.now.pattern.size c.in-Some.line ∷ []), c.loop-line.invariant.counted))
     (λ e. absurd (true≢false e))
 
 pub loop-line-smaller : goal.loop-line-smaller
@@ -66,7 +66,7 @@ pub loop-line-preserved : goal.loop-line-preserved
 loop-line-preserved g c =
     let at = (goal.at.loop-line-preserved g c).In-Some in let pat = c.args.rules.now.pattern in
     let i = c.loop-line.invariant in let line = c.in-Some.line in
-    let h = house_of pat.size line in let lt = line-in g at in
+    let h = line_house pat.size line in let lt = line-in g at in
     let K = has c.loop-line.planes in let K' = has c.visit.new.planes in
     let v = rw c.in-Some-visit.is at c.visit.ensures.visited in let lost = g.W.Word.bits c.in-Some-visit.lost in
     let woken = lines-woken pat line lt K K' lost v.2 g.W.Word.bits c.loop-line.waits c.without.result c.with_crossing-waits.result c.without.ensures c.with_crossing-waits.ensures in

@@ -1,4 +1,4 @@
-use Rattle.pattern_core.proofs.Common.{IsDecidedBy, and_parts, any_below-none, any_below-some, ap, arith, cases_Bool, clue_of, common_steps, has_bit, house_of, line_len, lt-ltb, ltb, ltb-true, not, not-true, or_parts, sets_by, sym, true, ℕ, ◌&&◌, ◌<◌, ◌||◌, ◌∙◌, ◌≡◌}
+use Rattle.pattern_core.proofs.Common.{IsDecidedBy, and_parts, any_below-none, any_below-some, ap, arith, cases_Bool, clue_of, common_steps, has_bit, line_house, line_len, lt-ltb, ltb, ltb-true, not, not-true, or_parts, sets_by, sym, true, ℕ, ◌&&◌, ◌<◌, ◌||◌, ◌∙◌, ◌≡◌}
 use Rattle.pattern_core.proofs.LineTakings.{both-taken, cells-in, kept-dead, left-alive, line-long, line-within, lost-at, taken-is, wide-in}
 use Rattle.pattern_core.proofs.planes.visit.visit.Goals as goal
 use Rattle.pattern_core.proofs.planes.visit.visit.Goals.{After-filter-kept}
@@ -7,14 +7,14 @@ use Rattle.pattern_core.proofs.planes.visit.visit.Goals.{After-filter-kept}
 count : (g : _) (c : After-filter-kept g) → c.line_len-count.result ≡ line_len c.args.rules.now.pattern.size c.args.line
 count g c =
     let size = c.size-size.ensures in
-    (rw (c.house_of-house.ensures, size) at c.line_len-count.ensures.cells) ∙ line-long c.args.rules.now.pattern.size c.args.line c.requires.line_in
+    (rw (c.line_house-house.ensures, size) at c.line_len-count.ensures.cells) ∙ line-long c.args.rules.now.pattern.size c.args.line c.requires.line_in
 
 decided : (g : _) (c : After-filter-kept g)
     → (let p = c.args.rules.now.pattern in let cells = λ (w b : ℕ). sets_by w b (line_len p.size c.args.line) in let bits = g.W.Word.bits in
-    IsDecidedBy (clue_of p (house_of p.size c.args.line)) (cells (bits c.line.result) (bits c.line-2.result))
+    IsDecidedBy (clue_of p (line_house p.size c.args.line)) (cells (bits c.line.result) (bits c.line-2.result))
     (cells (bits c.filter-kept.result.white) (bits c.filter-kept.result.black)))
 decided g c =
-    let clue = rw (c.house_of-house.ensures, c.size-size.ensures) at c.clue.ensures in
+    let clue = rw (c.line_house-house.ensures, c.size-size.ensures) at c.clue.ensures in
     rw (clue, count g c) at c.filter-kept.ensures
 
 pub returns-then-is_some-clause-visited : goal.returns-then-is_some-clause-visited
