@@ -7,10 +7,11 @@ ghost use Rattle.solo_core.specs.PeeledHouses.{AreLone, IsPaired, IsRest, KeepsF
 
 use crate::visits::bits::{next_bit, others_below, with_bit_if};
 use crate::visits::graph::MANY;
-use crate::visits::mates::{pair_rest, rest_of};
+use crate::visits::mates::{list_rest, pair_rest};
 use crate::visits::peel::{are_whole, copy_counted, peel};
 use crate::visits::reach::{close_under_steps, write_leads};
 use crate::visits::turning::lie_on_rounds;
+use arrayvec::ArrayVec;
 use engine_core::has_bit;
 use grid_core::Pairing;
 
@@ -37,7 +38,8 @@ pub(crate) fn keep_houses(values: u8, sets: &[u32], kept: &mut [u32], pairing: &
     if !is_open && are_whole(values, settled, sets) {
         return false;
     }
-    let others = rest_of(sets, settled);
+    let mut others = ArrayVec::new();
+    list_rest(sets, settled, &mut others);
     let rest: &[u8] = &others;
     if !is_open {
         return keep_others(values, settled, rest, kept, pairing);

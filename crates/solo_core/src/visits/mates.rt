@@ -1,6 +1,6 @@
 //! Which cell of a house has which value in one filling without repeat.
 
-ghost use Rattle.std.specs.Prelude.{◌≡◌, ◌≤◌, IfNone, IfSome, length};
+ghost use Rattle.std.specs.Prelude.{◌≡◌, ◌≤◌, IfNone, IfSome, [], length};
 ghost use Rattle.grid_core.specs.Candidates.{max_values};
 ghost use Rattle.solo_core.specs.PeeledHouses.{IsPaired, IsShortRest, meets, rest_of, AreCellsOf};
 
@@ -9,21 +9,20 @@ use crate::visits::quick::pair_quickly;
 use arrayvec::ArrayVec;
 use grid_core::{Paired, Pairing};
 
-/// The cells that have none of these values.
+/// Lists the cells that have none of these values.
 #[tactic(auto, using(crate::proofs::LawSets::mates_laws))]
-pub(crate) fn rest_of(sets: &[u32], lone: u32) -> ArrayVec<u8, MANY>
-    requires { length sets.now ≤ max_values }
-    ensures rest { result.items ≡ rest_of (length sets.now) (meets sets.now lone) }
-    ensures few { length result.items ≤ length sets.now }
+pub(crate) fn list_rest(sets: &[u32], lone: u32, rest: &mut ArrayVec<u8, MANY>)
+    requires few { length sets.now ≤ max_values }
+    requires none { rest.old.items ≡ [] }
+    ensures rest { rest.new.items ≡ rest_of (length sets.now) (meets sets.now lone) }
+    ensures few { length rest.new.items ≤ length sets.now }
 {
-    let mut rest = ArrayVec::new();
     for cell in 0..sets.len() {
         if sets[cell] & lone != 0 {
             continue;
         }
         rest.push(cell as u8);
     }
-    rest
 }
 
 /// Pairs these cells with values. None if some of them have fewer values than they are.

@@ -13,7 +13,7 @@ are_lone : (c : After-deref-rest) → AreLone c.args.values c.args.sets.now c.lo
 are_lone c = lone-counts c.requires.square c.copy_counted-counts.ensures.counts (omega arith) c.lone-settled.ensures
 
 are_rest : (c : After-deref-rest) → IsRest c.args.values c.args.sets.now c.deref-rest.result.now
-are_rest c = rw c.deref-rest.ensures.0 (rest-is (are_lone c) c.rest_of-others.ensures.rest c.rest_of-others.ensures.few)
+are_rest c = rw c.deref-rest.ensures.0 (rest-is (are_lone c) c.list_rest.ensures.rest c.list_rest.ensures.few)
 
 pub keep_others-requires-clause-lone : goal.keep_others-requires-clause-lone
 keep_others-requires-clause-lone c =
@@ -26,7 +26,7 @@ keep_others-requires-clause-rest c =
 pub peel-lone-requires-clause-settled : goal.peel-lone-requires-clause-settled
 peel-lone-requires-clause-settled c =
     let d = (goal.at.peel-lone-requires-clause-settled c).After-deref-rest in
-    rw c.copy_counted-counts.ensures.copied (rest-settled (are_lone d) (d.deref-rest.ensures.0 ∙ d.rest_of-others.ensures.rest) (omega arith))
+    rw c.copy_counted-counts.ensures.copied (rest-settled (are_lone d) (d.deref-rest.ensures.0 ∙ d.list_rest.ensures.rest) (omega arith))
 
 pub peel-lone-requires-clause-rest : goal.peel-lone-requires-clause-rest
 peel-lone-requires-clause-rest c =

@@ -1,5 +1,5 @@
 use Rattle.solo_core.proofs.Common.{length, meets, rest_of, ◌≡◌, ◌≤◌}
-use Rattle.solo_core.proofs.visits.mates.rest_of.Given as goal
+use Rattle.solo_core.proofs.visits.mates.list_rest.Given as goal
 
 abbrev pub invariant-loop-cell : goal.invariant-loop-cell
 invariant-loop-cell l = record {
