@@ -45,11 +45,9 @@ pub(crate) fn peel(values: u8, counted: Counts, settled: u32, rest: &[u8], sets:
 {
     let mut counts = counted;
     for _turn in 0..sets.len() {
-        if !counts.are_open() {
-            break;
-        }
         let narrowed = narrow_all(values, counts, settled, rest, sets);
-        if narrowed.single == counts.single && narrowed.shared == counts.shared {
+        let is_same = narrowed.single == counts.single && narrowed.shared == counts.shared;
+        if is_same || !narrowed.are_open() {
             return narrowed.lone(values);
         }
         counts = narrowed;

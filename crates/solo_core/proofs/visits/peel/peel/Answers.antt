@@ -13,16 +13,16 @@ loop-turn-preserved c =
       rest = rest-peeled n.peeled n.others i.rest;
     }
 
-pub returns-then-narrowed-counts-2-clause-peeled : goal.returns-then-narrowed-counts-2-clause-peeled
-returns-then-narrowed-counts-2-clause-peeled c = peeled-more c.loop-turn.invariant.peeled c.narrow_all-narrowed.ensures.peeled
+pub returns-then-is_same-clause-peeled : goal.returns-then-is_same-clause-peeled
+returns-then-is_same-clause-peeled c = peeled-more c.loop-turn.invariant.peeled c.narrow_all-narrowed.ensures.peeled
 
-pub returns-then-narrowed-counts-2-clause-lone : goal.returns-then-narrowed-counts-2-clause-lone
-returns-then-narrowed-counts-2-clause-lone c =
+pub returns-then-is_same-clause-lone : goal.returns-then-is_same-clause-lone
+returns-then-is_same-clause-lone c =
     lone-counts (c.narrow_all-narrowed.ensures.peeled.as_many ∙ c.loop-turn.invariant.peeled.as_many ∙ c.requires.square)
     c.narrow_all-narrowed.ensures.counts (omega arith) c.lone.ensures
 
-pub returns-then-narrowed-counts-2-clause-rest : goal.returns-then-narrowed-counts-2-clause-rest
-returns-then-narrowed-counts-2-clause-rest c =
+pub returns-then-is_same-clause-rest : goal.returns-then-is_same-clause-rest
+returns-then-is_same-clause-rest c =
     rest-peeled c.narrow_all-narrowed.ensures.peeled c.narrow_all-narrowed.ensures.others c.loop-turn.invariant.rest
 
 pub returns-clause-lone : goal.returns-clause-lone
