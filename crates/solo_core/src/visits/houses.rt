@@ -63,10 +63,11 @@ fn keep_others(values: u8, lone: u32, rest: &[u8], kept: &mut [u32], pairing: &m
     ensures same { result ≡ false → kept.new ≡ kept.old }
     ensures room { pairing.new.room ≡ pairing.old.room }
 {
-    let Some(paired) = pair_rest(values, kept, rest, pairing) else {
+    let mut paired = ArrayVec::new();
+    if !pair_rest(values, kept, rest, pairing, &mut paired) {
         kept.fill(0);
         return true;
-    };
+    }
     keep_paired(values, lone, rest, &paired, kept)
 }
 

@@ -1,6 +1,6 @@
 //! Which cell of a house has which value in one filling without repeat.
 
-ghost use Rattle.std.specs.Prelude.{◌≡◌, ◌≤◌, IfNone, IfSome, [], length};
+ghost use Rattle.std.specs.Prelude.{◌≡◌, ◌≤◌, [], false, length, true};
 ghost use Rattle.grid_core.specs.Candidates.{max_values};
 ghost use Rattle.solo_core.specs.PeeledHouses.{IsPaired, IsShortRest, meets, rest_of, AreCellsOf};
 
@@ -25,32 +25,34 @@ pub(crate) fn list_rest(sets: &[u32], lone: u32, rest: &mut ArrayVec<u8, MANY>)
     }
 }
 
-/// Pairs these cells with values. None if some of them have fewer values than they are.
+/// Pairs these cells with values. Says whether it can: else some of them have fewer values than they are.
 pub(crate) fn pair_rest(
     values: u8,
     sets: &[u32],
     rest: &[u8],
     pairing: &mut Pairing,
-) -> Option<ArrayVec<u8, MANY>>
+    paired: &mut ArrayVec<u8, MANY>,
+) -> bool
     requires few { values ≤ max_values }
     requires rest_few { length rest.now ≤ max_values }
     requires rest_in { AreCellsOf sets.now rest.now }
     requires lefts { length rest.now ≤ pairing.old.room }
     requires rights { values ≤ pairing.old.room }
+    requires none { paired.old.items ≡ [] }
     ensures room { pairing.new.room ≡ pairing.old.room }
-    ensures all { IfSome result (λ paired. IsPaired values sets.now rest.now paired.items) }
-    ensures short { IfNone result (IsShortRest values sets.now rest.now pairing.new.short) }
+    ensures all { result ≡ true → IsPaired values sets.now rest.now paired.new.items }
+    ensures short { result ≡ false → IsShortRest values sets.now rest.now pairing.new.short }
 {
     let graph = CellValueGraph { sets, rest, values };
-    if let Some(paired) = pair_quickly(&graph) {
-        return Some(paired);
+    if pair_quickly(&graph, paired) {
+        return true;
     }
     if let Paired::Short = pairing.run(&graph) {
-        return None;
+        return false;
     }
-    let mut paired = ArrayVec::new();
+    paired.clear();
     for i in 0..rest.len() {
         paired.push(pairing.mate(i) as u8);
     }
-    Some(paired)
+    true
 }

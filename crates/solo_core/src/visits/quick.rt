@@ -1,7 +1,7 @@
 //! A pairing of the cells of a house with values that is found without a search.
 #![tactic(auto, using(crate::proofs::LawSets::quick_laws))]
 
-ghost use Rattle.std.specs.Prelude.{◌≡◌, ◌+◌, ◌<◌, ◌≤◌, IfSome, OnSome, length};
+ghost use Rattle.std.specs.Prelude.{◌≡◌, ◌+◌, ◌<◌, ◌≤◌, OnSome, [], length, true};
 ghost use Rattle.grid_core.specs.Candidates.{max_values};
 ghost use Rattle.solo_core.specs.QuickPairings.{AllPaired, FirstPaired, OneMorePaired};
 
@@ -10,21 +10,21 @@ use crate::visits::graph::{CellValueGraph, MANY};
 use arrayvec::ArrayVec;
 use engine_core::has_bit;
 
-/// Pairs the cells one after another: each with a free value, or with one whose cell has a free one. None if not all are
-/// paired so.
-pub(crate) fn pair_quickly(graph: &CellValueGraph) -> Option<ArrayVec<u8, MANY>>
-    requires { length graph.now.rest.now ≤ max_values }
-    ensures { IfSome result (λ mates. AllPaired graph.now mates.items) }
+/// Pairs the cells one after another: each with a free value, or with one whose cell has a free one. Says whether all
+/// are paired so.
+pub(crate) fn pair_quickly(graph: &CellValueGraph, mates: &mut ArrayVec<u8, MANY>) -> bool
+    requires few { length graph.now.rest.now ≤ max_values }
+    requires none { mates.old.items ≡ [] }
+    ensures { result ≡ true → AllPaired graph.now mates.new.items }
 {
-    let mut mates = ArrayVec::new();
     let mut free = all_below(graph.values);
     for i in 0..graph.rest.len() {
-        match give(graph, i, free, &mut mates) {
-            None => return None,
+        match give(graph, i, free, mates) {
+            None => return false,
             Some(value) => free &= !with_bit(0, value),
         }
     }
-    Some(mates)
+    true
 }
 
 /// Gives the cell a free value, or the value of one before it that has a free one. Says which one is free no more.
