@@ -35,12 +35,12 @@ pub use Rattle.solo_core.specs.Faults.{FailsSolo, IsSoloFault, Repeats, fault_of
 pub use Rattle.solo_core.specs.HouseLaws.{all_houses, column_in, each_house, listed-different, listed-has, listed-same, listed-within, lists_house, row_in}
 pub use Rattle.solo_core.specs.HouseLaws.{some_numbers}
 pub use Rattle.solo_core.specs.SolutionLaws.{different_from_no_repeat, no_repeat_from_different, none_missed, own_from_no_repeat}
-pub use Rattle.solo_core.specs.PeeledHouses.{AreAllCounts, AreAlone, AreLone, AreSettled, AreValueCounts, AreWhole, IsAlone, IsDropped, IsOutside, IsPaired}
-pub use Rattle.solo_core.specs.PeeledHouses.{IsPassed, IsPeeled, IsRest, IsShortRest, IsSingleSet, KeepsFillings, KeepsOthers, KeepsReaching, LeadByMates, PairsCells}
+pub use Rattle.solo_core.specs.PeeledHouses.{AreAllCounts, AreAlone, AreLone, AreSettledCells, AreValueCounts, AreWhole, IsAlone, IsDropped, IsOutside, IsPaired}
+pub use Rattle.solo_core.specs.PeeledHouses.{IsPassedCell, IsPeeled, IsRest, IsShortRest, IsSingleSet, KeepsFillings, KeepsOthers, KeepsReaching, LeadByMates, PairsCells}
 pub use Rattle.solo_core.specs.PeeledHouses.{meets, rest_of}
 pub use Rattle.solo_core.specs.QuickPairings.{PairsOneMore, IsBegun}
 pub use Rattle.solo_core.specs.RuleLaws.{crossings_lawful, crossings_sound, fillings_sound, houses_lawful, singles_lawful, singles_sound}
-pub use Rattle.solo_core.specs.RuleSets.{crossing_of, crossings_of, deciding, filled_houses, house_at, house_by, houses_rules, rules_of, setting_of}
+pub use Rattle.solo_core.specs.RuleSets.{crossing_of, crossings_of, deciding, filled_houses, visited_house, house_by, houses_rules, rules_of, setting_of}
 pub use Rattle.solo_core.specs.RuleSets.{single_houses, singles_rules}
 unfoldable pub use Rattle.solo_core.specs.RuleSets.{start}
 pub use Rattle.solo_core.specs.Scopes.{IsCrossingAt, crossing_scopes, scopes_of}

@@ -1,5 +1,5 @@
 -- Houses and crossings: their places, how they decide, and the start.
-use Rattle.solo_core.proofs.Common.{All, Block, Bool, Candidates, Column, Decision, Diagonal, FitsPlaces, House, IsDecided, IsSolo, IsSound, List, Listed, NamedHouse, Row, Solo, [], add-zero, all_below-from, all_houses, all_of, all_places, and_from, and_parts, ap, append-nil, append_assoc, arith, block-within, by_fillings-met, cases_Bool, common_steps, count_plain, count_x, crossing_scopes, crossings_of, deciding, div-mul-add, eqb, ext_get_or, false, filled_houses, fun_ext, get_or, get_or-append_right, get_or-map, get_or-map-range_with_len, get_or_append_left, given_stands, house_at, house_by, house_count, house_of, house_places, houses_of, houses_rules, if◌then◌else◌, inl, inr, is_solo_solution, kept-decided, length, length-append, length-map, length-map-range_with_len, listed-different, listed-within, lists_house, ltb, map, map-append, map-map, map-range_with_len_more, mod-mul-add, mul-le, mul-le-mul_right, nat_tests, no_house, no_repeat, not, numbers_of, only, places_of, range_with_len, refl, rules_of, scopes_of, setting_of, slice_index, solo_cells, solo_n, some_numbers, start, strided, strikes_by_fillings, suc, sym, take, take-length, take_more, true, true≢false, zero, ℕ, ◌%◌, ◌&&◌, ◌*◌, ◌++◌, ◌+◌, ◌-◌, ◌/◌, ◌<◌, ◌||◌, ◌∙◌, ◌∷◌, ◌≡◌, ◌≤◌}
+use Rattle.solo_core.proofs.Common.{All, Block, Bool, Candidates, Column, Decision, Diagonal, FitsPlaces, House, IsDecided, IsSolo, IsSound, List, Listed, NamedHouse, Row, Solo, [], add-zero, all_below-from, all_houses, all_of, all_places, and_from, and_parts, ap, append-nil, append_assoc, arith, block-within, by_fillings-met, cases_Bool, common_steps, count_plain, count_x, crossing_scopes, crossings_of, deciding, div-mul-add, eqb, ext_get_or, false, filled_houses, fun_ext, get_or, get_or-append_right, get_or-map, get_or-map-range_with_len, get_or_append_left, given_stands, visited_house, house_by, house_count, house_of, house_places, houses_of, houses_rules, if◌then◌else◌, inl, inr, is_solo_solution, kept-decided, length, length-append, length-map, length-map-range_with_len, listed-different, listed-within, lists_house, ltb, map, map-append, map-map, map-range_with_len_more, mod-mul-add, mul-le, mul-le-mul_right, nat_tests, no_house, no_repeat, not, numbers_of, only, places_of, range_with_len, refl, rules_of, scopes_of, setting_of, slice_index, solo_cells, solo_n, some_numbers, start, strided, strikes_by_fillings, suc, sym, take, take-length, take_more, true, true≢false, zero, ℕ, ◌%◌, ◌&&◌, ◌*◌, ◌++◌, ◌+◌, ◌-◌, ◌/◌, ◌<◌, ◌||◌, ◌∙◌, ◌∷◌, ◌≡◌, ◌≤◌}
 use Rattle.solo_core.specs.Work.{closed_lists}
 use Rattle.engine_core.specs.Keeping.{AreSetsOf, IsKept}
 use Rattle.solo_core.specs.declared.houses.scope.VisitName.{VisitName}
@@ -117,7 +117,7 @@ module _ (p : Solo) where
   scopes-length = both-length _ _ _ (solo_n p * p.r)
 
   pub crossings-length : length (crossings_of p) ≡ solo_n p * p.c + solo_n p * p.r
-  crossings-length = length-map (crossing_scopes p) (house_at p) ∙ scopes-length
+  crossings-length = length-map (crossing_scopes p) (visited_house p) ∙ scopes-length
 
 -- ---- houses and then others
 pub first_at : (some more : List House) {h : ℕ} → h < length some → house_of some h ≡ house_of (some ++ more) h
@@ -147,13 +147,13 @@ module _ (p : Solo) where
   pub crossing-after : (h : ℕ) (d : VisitName) → length (houses_of p) ≤ h → get_or (scopes_of p) h d ≡ get_or (crossing_scopes p) (h - length (houses_of p)) d
   crossing-after h d le = get_or-append_right names _ _ h d names-length le
 
-  all-named : map (house_at p) (scopes_of p) ≡ filled_houses p ++ crossings_of p
+  all-named : map (visited_house p) (scopes_of p) ≡ filled_houses p ++ crossings_of p
   all-named = grind (arith, common_steps, map-append, map-map)
 
   pub crossings-counted : length (filled_houses p ++ crossings_of p) ≡ length (scopes_of p)
   crossings-counted = ap length (sym all-named) ∙ length-map _ _
 
-  pub scope-named : (h : ℕ) (d : VisitName) → h < length (scopes_of p) → house_of (filled_houses p ++ crossings_of p) h ≡ house_at p (get_or (scopes_of p) h d)
+  pub scope-named : (h : ℕ) (d : VisitName) → h < length (scopes_of p) → house_of (filled_houses p ++ crossings_of p) h ≡ visited_house p (get_or (scopes_of p) h d)
   scope-named h d lt = ap (λ xs. house_of xs h) (sym all-named) ∙ get_or-map _ _ h d no_house lt
 
 -- The places of the houses, as they are listed one after another.

@@ -1,5 +1,5 @@
 -- Houses in which cells are alone, and houses that are whole.
-use Rattle.solo_core.proofs.Common.{AreAllCounts, AreAlone, AreLone, AreSettled, AreValueCounts, AreWhole, Bool, IsAlone, IsDropped, IsOutside, IsPeeled, IsRest, IsSingleSet, KeepsFillings, KeepsOthers, List, PairsCells, and_le_r, ap, arith, bit_and, both-bits, cases_Bool, cases_eq, common_steps, cond, eq-eqb, eqb, eqb-true, false, false_from_ne_true, get_or-map-range_with_len, has_bit, has_in, inl, inr, is_struck, length, length-map-range_with_len, ltb, map, meets, nat_tests, ne_eqb, no_repeat, none_missed, not, range_with_len, refl, rest_of, set_of_bits, shown_from_test, slice_index, suc, sym, true, true_from_ne_false, true≢false, zero, zero-bits, ℕ, ◌&&◌, ◌<◌, ◌^◌, ◌||◌, ◌∙◌, ◌≡◌, ◌≤◌, ◌⊎◌}
+use Rattle.solo_core.proofs.Common.{AreAllCounts, AreAlone, AreLone, AreSettledCells, AreValueCounts, AreWhole, Bool, IsAlone, IsDropped, IsOutside, IsPeeled, IsRest, IsSingleSet, KeepsFillings, KeepsOthers, List, PairsCells, and_le_r, ap, arith, bit_and, both-bits, cases_Bool, cases_eq, common_steps, cond, eq-eqb, eqb, eqb-true, false, false_from_ne_true, get_or-map-range_with_len, has_bit, has_in, inl, inr, is_struck, length, length-map-range_with_len, ltb, map, meets, nat_tests, ne_eqb, no_repeat, none_missed, not, range_with_len, refl, rest_of, set_of_bits, shown_from_test, slice_index, suc, sym, true, true_from_ne_false, true≢false, zero, zero-bits, ℕ, ◌&&◌, ◌<◌, ◌^◌, ◌||◌, ◌∙◌, ◌≡◌, ◌≤◌, ◌⊎◌}
 use Rattle.solo_core.proofs.MateLemmas.{decided_by_all, last, last-below, last-passes, pairing_of_filling, rest-apart, rest-has, rest-in, rest-within, shown_by_pairing}
 use Rattle.solo_core.proofs.BitLemmas.{none_in_zero, some_set}
 
@@ -159,7 +159,7 @@ module _ {n : ℕ} {sets rest : List ℕ} {lone : ℕ} (l : AreLone n sets lone)
       let off = (rest-in (length sets) (meets sets lone) (rw e at lt)).1 in
       true≢false (sym on ∙ ap (meets sets lone) (sym is ∙ ap (λ xs. slice_index xs t) e) ∙ off)
 
-  pub rest-settled : lone < 2 ^ 32 → AreSettled sets rest lone
+  pub rest-settled : lone < 2 ^ 32 → AreSettledCells sets rest lone
   rest-settled low = record {
     has = λ j v on has.
         let m = outside-meets j on.0 (λ t lt. on.1 t (omega arith) lt) in
@@ -204,7 +204,7 @@ rest-peeled {n} {old} {new} {rest} p keeps r = record {
       };
 }
 
-pub settled-peeled : {n settled : ℕ} {old new : List ℕ} (rest : List ℕ) → IsPeeled n old new → KeepsOthers rest old new → AreSettled old rest settled → AreSettled new rest settled
+pub settled-peeled : {n settled : ℕ} {old new : List ℕ} (rest : List ℕ) → IsPeeled n old new → KeepsOthers rest old new → AreSettledCells old rest settled → AreSettledCells new rest settled
 settled-peeled rest p keeps c = counts-same c (λ j on. keeps j (λ t lt. on.1 t (omega arith) lt)) (λ j on. (omega (arith, p.as_many, on.0), on.1))
     (λ j on. (omega (arith, p.as_many, on.0), on.1))
 

@@ -6,7 +6,7 @@ use Rattle.std.proofs.lemmas.List.Sums.{sum_by-cons, sum_by-append}
 use Rattle.solo_core.specs.Crossing.{crossing_places}
 use Rattle.solo_core.specs.Meanings.{house_visits, crossing_visits, all_visits}
 use Rattle.solo_core.specs.HouseLaws.{lists_house, listed-same, all_houses, each_value, row_in, column_in}
-use Rattle.solo_core.specs.RuleSets.{deciding, filled_houses, house_by, house_at, crossings_rules, crossings_of}
+use Rattle.solo_core.specs.RuleSets.{deciding, filled_houses, house_by, visited_house, crossings_rules, crossings_of}
 use Rattle.solo_core.specs.declared.houses.scope.VisitName.{VisitName}
 use Rattle.solo_core.specs.Scopes.{row_scope, column_scope}
 
@@ -107,12 +107,12 @@ module _ (p : Solo) (ok : IsSolo p) (b : ℕ) (b_in : b < solo_n p) where
       (λ z. ap (λ k. k * p.c + b % p.c) z ∙ whole)))
 
 -- ---- the bound with crossings
-sum_alike : (p : Solo) (f : ℕ → VisitName) (k len : ℕ) → ((m : ℕ) → m < k → length (house_at p (f m)).places ≡ len)
-    → sum_by (visits_of (solo_n p)) (map (house_at p) (map f (range_with_len 0 k))) ≡ k * (1 + len * solo_n p)
-sum_alike p f k len each = sum_same (visits_of (solo_n p)) (1 + len * solo_n p) (map (house_at p) (map f (range_with_len 0 k)))
-    (All-map (λ house. visits_of (solo_n p) house ≡ 1 + len * solo_n p) (house_at p) (map f (range_with_len 0 k))
-    (each_value (λ scope. visits_of (solo_n p) (house_at p scope) ≡ 1 + len * solo_n p) f k (λ m lt. ap (λ l. 1 + l * solo_n p) (each m lt))))
-    ∙ ap (λ l. l * (1 + len * solo_n p)) (length-map (map f (range_with_len 0 k)) (house_at p) ∙ length-map-range_with_len f 0 k)
+sum_alike : (p : Solo) (f : ℕ → VisitName) (k len : ℕ) → ((m : ℕ) → m < k → length (visited_house p (f m)).places ≡ len)
+    → sum_by (visits_of (solo_n p)) (map (visited_house p) (map f (range_with_len 0 k))) ≡ k * (1 + len * solo_n p)
+sum_alike p f k len each = sum_same (visits_of (solo_n p)) (1 + len * solo_n p) (map (visited_house p) (map f (range_with_len 0 k)))
+    (All-map (λ house. visits_of (solo_n p) house ≡ 1 + len * solo_n p) (visited_house p) (map f (range_with_len 0 k))
+    (each_value (λ scope. visits_of (solo_n p) (visited_house p scope) ≡ 1 + len * solo_n p) f k (λ m lt. ap (λ l. 1 + l * solo_n p) (each m lt))))
+    ∙ ap (λ l. l * (1 + len * solo_n p)) (length-map (map f (range_with_len 0 k)) (visited_house p) ∙ length-map-range_with_len f 0 k)
 
 pub crossings_bound : (p : Solo) → IsSolo p → sum_by (visits_of (solo_n p)) (crossings_of p) ≡ crossing_visits p
 crossings_bound p ok =
@@ -126,8 +126,8 @@ crossings_bound p ok =
     let c_in = mul-le p.c 1 p.c p.r (omega arith) (omega arith) in
     let e : solo_n p + (solo_n p - p.r) ≡ 2 * solo_n p - p.r = omega arith in
     let f : solo_n p + (solo_n p - p.c) ≡ 2 * solo_n p - p.c = omega arith in
-    ap (sum_by (visits_of (solo_n p))) (map-append (house_at p) (map (row_scope p) (range_with_len 0 (solo_n p * p.c))) _)
-    ∙ sum_by-append (visits_of (solo_n p)) (map (house_at p) (map (row_scope p) (range_with_len 0 (solo_n p * p.c)))) _
+    ap (sum_by (visits_of (solo_n p))) (map-append (visited_house p) (map (row_scope p) (range_with_len 0 (solo_n p * p.c))) _)
+    ∙ sum_by-append (visits_of (solo_n p)) (map (visited_house p) (map (row_scope p) (range_with_len 0 (solo_n p * p.c)))) _
     ∙ rw (rows, columns, e, f) refl
 
 pub crossings_rules-bound : (p : Solo) → IsSolo p → (crossings_rules p).bound ≡ all_visits p

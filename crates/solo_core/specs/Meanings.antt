@@ -3,12 +3,12 @@ use Rattle.std.specs.Prelude.{◌≡◌, ℕ, ◌+◌, ◌-◌, ◌*◌, ◌<◌
 use Rattle.solo_core.specs.Common.{Candidates, IsGrid, Solo, solo_n, RuleSystem, has_place, house_of, NamedHouse, solo_cells, houses_of, lies_in, places_of, IsSoloSolution}
 use Rattle.solo_core.specs.declared.houses.scope.VisitName.{VisitName}
 use Rattle.solo_core.specs.declared.houses.scope.VisitName.TheVariants.{House}
-use Rattle.solo_core.specs.RuleSets.{filled_houses, crossings_of, house_at}
+use Rattle.solo_core.specs.RuleSets.{filled_houses, crossings_of, visited_house}
 use Rattle.solo_core.specs.Scopes.{scopes_of}
 
 -- the grids that the rules accept are the solutions of the puzzle
-abbrev pub AcceptsSolutions : Solo → RuleSystem → Type 0
-AcceptsSolutions p rules = (g : List ℕ) → IsGrid (solo_cells p) (solo_n p) g
+abbrev pub AcceptsSoloSolutions : Solo → RuleSystem → Type 0
+AcceptsSoloSolutions p rules = (g : List ℕ) → IsGrid (solo_cells p) (solo_n p) g
     → (IsTrue (rules.is_solution g)) ↔ IsSoloSolution p g
 
 -- what a house of the first rules strikes, the house of the second with its number strikes too
@@ -30,7 +30,7 @@ HousesComeFirst p = (h : ℕ) (scope : VisitName) (house : NamedHouse) → h < l
 abbrev pub AreNamedByScopes : Solo → Type 0
 AreNamedByScopes p = (h : ℕ) (scope : VisitName) → h < length (scopes_of p)
     → house_of (filled_houses p ++ crossings_of p) h
-    ≡ house_at p (slice_index_or (scopes_of p) h scope)
+    ≡ visited_house p (slice_index_or (scopes_of p) h scope)
 
 -- the most visits of a closing: one of each house, and one more for each number of each of its cells; and so for crossings,
 -- of which those with rows have 2n - r cells, and those with columns 2n - c

@@ -43,8 +43,8 @@ abbrev pub rest_of : ℕ → (ℕ → Bool) → List ℕ
 rest_of n cells = filter (λ k. not (cells k)) (range_with_len 0 n)
 
 -- the cell is none of these from the i-th on, or none at all
-abbrev pub IsPassed : List ℕ → ℕ → ℕ → Type 0
-IsPassed rest i cell = (t : ℕ) → i ≤ t → t < length rest → slice_index rest t ≡ cell → ⊥
+abbrev pub IsPassedCell : List ℕ → ℕ → ℕ → Type 0
+IsPassedCell rest i cell = (t : ℕ) → i ≤ t → t < length rest → slice_index rest t ≡ cell → ⊥
 
 abbrev pub IsOutside : List ℕ → ℕ → Type 0
 IsOutside rest cell = (t : ℕ) → t < length rest → slice_index rest t ≡ cell → ⊥
@@ -112,9 +112,9 @@ is_lone n single shared v = has_bit single v && (nat_lt v n && not (has_bit shar
 abbrev pub AreAllCounts : List ℕ → ℕ → ℕ → ℕ → Type 0
 AreAllCounts sets = AreValueCounts sets (λ k. k < length sets)
 
-abbrev pub AreSettled : List ℕ → List ℕ → ℕ → Type 0
-AreSettled sets rest values =
-    AreValueCounts sets (λ k. (k < length sets) × IsPassed rest 0 k) values values 0
+abbrev pub AreSettledCells : List ℕ → List ℕ → ℕ → Type 0
+AreSettledCells sets rest values =
+    AreValueCounts sets (λ k. (k < length sets) × IsPassedCell rest 0 k) values values 0
 
 -- the set has another value, and no other set has that one, or some set has this one alone
 abbrev pub IsDropped : ℕ → ℕ → ℕ → ℕ → ℕ → Type 0

@@ -6,7 +6,7 @@ use Rattle.engine_core.specs.HouseSetsLaws.{by_fillings-monotone}
 use Rattle.engine_core.specs.HouseList.{AreScopesOf, all_places, listed_visits}
 use Rattle.engine_core.specs.ListedLaws.{listed-scopes, visits-listed}
 use Rattle.engine_core.specs.HouseRulesLaws.{by_houses-lawful, bound_enough, by_fillings-settles, by_fillings-keeps}
-use Rattle.solo_core.specs.RuleSets.{start, house_by, house_at, deciding, crossings_of, setting_of, filled_houses, single_houses, crossing_of, rules_of, singles_rules, houses_rules, crossings_rules}
+use Rattle.solo_core.specs.RuleSets.{start, house_by, visited_house, deciding, crossings_of, setting_of, filled_houses, single_houses, crossing_of, rules_of, singles_rules, houses_rules, crossings_rules}
 use Rattle.solo_core.specs.declared.houses.scope.VisitName.{VisitName}
 use Rattle.solo_core.specs.Scopes.{row_scope, column_scope, crossing_scopes}
 use Rattle.solo_core.specs.HouseLaws.{lists_house, listed-within, listed-different, some_numbers, each_value, all_houses, row_in, column_in}
@@ -99,10 +99,10 @@ module _ (p : Solo) (ok : IsSolo p) where
       }
 
   abbrev scope_is_sound : List House → VisitName → Type 0
-  scope_is_sound all scope = IsSound (setting_of true p all) (house_at p scope)
+  scope_is_sound all scope = IsSound (setting_of true p all) (visited_house p scope)
 
   each_crossing : (all : List House) → All (IsSound (setting_of true p all)) (crossings_of p)
-  each_crossing all = All-map (IsSound (setting_of true p all)) (house_at p) (crossing_scopes p)
+  each_crossing all = All-map (IsSound (setting_of true p all)) (visited_house p) (crossing_scopes p)
       (All-append (scope_is_sound all) (map (row_scope p) (range_with_len 0 (solo_n p * p.c))) (map (column_scope p) (range_with_len 0 (solo_n p * p.r)))
       (each_value (scope_is_sound all) (row_scope p) (solo_n p * p.c) (λ m lt. let w = row_in ok m lt in crossing_is_sound all (Row _) w.0 w.1))
       (each_value (scope_is_sound all) (column_scope p) (solo_n p * p.r) (λ m lt. let w = column_in ok m lt in crossing_is_sound all (Column _) w.0 w.1)))

@@ -58,13 +58,13 @@ abbrev pub rest_of_line : Solo → ℕ → NamedHouse → List ℕ
 rest_of_line p block line = outside (places_of p (Block block)) (places_of p line)
 
 -- what is visited as a house, and by which decision
-abbrev pub house_at : Solo → VisitName → House
-house_at p (scope.House house) = house_by (strikes_by_fillings no_repeat) p house
-house_at p (scope.Crossing block line) = crossing_of p block line
+abbrev pub visited_house : Solo → VisitName → House
+visited_house p (scope.House house) = house_by (strikes_by_fillings no_repeat) p house
+visited_house p (scope.Crossing block line) = crossing_of p block line
 
 -- crossings strike too
 abbrev pub crossings_of : Solo → List House
-crossings_of p = map (house_at p) (crossing_scopes p)
+crossings_of p = map (visited_house p) (crossing_scopes p)
 
 -- what the crossing with the number decides
 abbrev pub crossing_decides : Solo → ℕ → Decision

@@ -3,7 +3,7 @@
 
 ghost use Rattle.std.specs.Prelude.{◌≡◌, ◌+◌, ◌*◌, length, if◌then◌else◌};
 ghost use Rattle.solo_core.specs.Common.{Solo, IsSolo, solo_n, IsLawful, NamedHouse, houses_of, IsHouseOf};
-ghost use Rattle.solo_core.specs.Meanings.{AcceptsSolutions, StrikesAsMuch, ListsItsPlaces, HousesComeFirst, AreNamedByScopes, house_visits, all_visits};
+ghost use Rattle.solo_core.specs.Meanings.{AcceptsSoloSolutions, StrikesAsMuch, ListsItsPlaces, HousesComeFirst, AreNamedByScopes, house_visits, all_visits};
 ghost use Rattle.solo_core.specs.RuleSets.{houses_rules, singles_rules, crossings_rules};
 ghost use Rattle.solo_core.specs.Scopes.{scopes_of};
 
@@ -27,9 +27,9 @@ pub fn rules_of_crossings(rules: &SoloCrossings)
 
 /// The grids that the rules of each rule set accept are the solutions of the puzzle.
 pub fn accepted_are_solutions()
-    ensures houses { (p : Solo) → IsSolo p → AcceptsSolutions p (houses_rules p) }
-    ensures singles { (p : Solo) → IsSolo p → AcceptsSolutions p (singles_rules p) }
-    ensures crossings { (p : Solo) → IsSolo p → AcceptsSolutions p (crossings_rules p) }
+    ensures houses { (p : Solo) → IsSolo p → AcceptsSoloSolutions p (houses_rules p) }
+    ensures singles { (p : Solo) → IsSolo p → AcceptsSoloSolutions p (singles_rules p) }
+    ensures crossings { (p : Solo) → IsSolo p → AcceptsSoloSolutions p (crossings_rules p) }
 {}
 
 /// The rules of each rule set keep to what every search relies on, for each puzzle.

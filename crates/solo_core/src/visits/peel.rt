@@ -4,7 +4,7 @@
 ghost use Rattle.std.specs.Prelude.{◌≡◌, ℕ, ◌≤◌, ◌&&◌, ◌||◌, true, length};
 ghost use Rattle.grid_core.specs.Candidates.{max_values};
 ghost use Rattle.engine_core.specs.Sets.{has_bit as is_set};
-ghost use Rattle.solo_core.specs.PeeledHouses.{IsPeeled, AreLone, AreWhole, AreAllCounts, AreSettled, IsRest, KeepsOthers, AddsSingle, AddsShared, AreDropped, is_lone};
+ghost use Rattle.solo_core.specs.PeeledHouses.{IsPeeled, AreLone, AreWhole, AreAllCounts, AreSettledCells, IsRest, KeepsOthers, AddsSingle, AddsShared, AreDropped, is_lone};
 
 use crate::visits::bits::others_below;
 
@@ -37,7 +37,7 @@ pub(crate) fn peel(values: u8, counted: Counts, settled: u32, rest: &[u8], sets:
     requires few { values ≤ max_values }
     requires square { length sets.old ≡ values }
     requires counts { AreAllCounts sets.old counted.some counted.single counted.shared }
-    requires settled { AreSettled sets.old rest.now settled }
+    requires settled { AreSettledCells sets.old rest.now settled }
     requires rest { IsRest values sets.old rest.now }
     ensures peeled { IsPeeled values sets.old sets.new }
     ensures lone { AreLone values sets.new result }
@@ -101,7 +101,7 @@ fn narrow_all(values: u8, counts: Counts, settled: u32, rest: &[u8], sets: &mut 
     requires few { values ≤ max_values }
     requires square { length sets.old ≡ values }
     requires counts { AreAllCounts sets.old counts.some counts.single counts.shared }
-    requires settled { AreSettled sets.old rest.now settled }
+    requires settled { AreSettledCells sets.old rest.now settled }
     requires rest { IsRest values sets.old rest.now }
     ensures peeled { IsPeeled values sets.old sets.new }
     ensures counts { AreAllCounts sets.new result.some result.single result.shared }

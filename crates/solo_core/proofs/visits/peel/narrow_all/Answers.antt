@@ -1,4 +1,4 @@
-use Rattle.solo_core.proofs.Common.{IsPassed, ap, arith, cases_eq, get_or-set_at, get_or-set_other, has_bit, inl, inr, length, length-set, refl, slice_index, slice_set, sym, ℕ, ◌&&◌, ◌+◌, ◌<◌, ◌||◌, ◌∙◌, ◌≡◌}
+use Rattle.solo_core.proofs.Common.{IsPassedCell, ap, arith, cases_eq, get_or-set_at, get_or-set_other, has_bit, inl, inr, length, length-set, refl, slice_index, slice_set, sym, ℕ, ◌&&◌, ◌+◌, ◌<◌, ◌||◌, ◌∙◌, ◌≡◌}
 use Rattle.solo_core.proofs.PeelLemmas.{counts-more, counts-same, peeled-step}
 use Rattle.solo_core.proofs.visits.peel.narrow_all.Goals as goal
 
@@ -18,7 +18,7 @@ loop-i-preserved c =
     ap (slice_index sets) here_is ∙ i.ahead at (omega arith) (omega arith) ∙ ap (slice_index c.args.sets.now) (sym here_is) in
     record {
       as_many = length-set sets cell set ∙ i.as_many;
-      counts = counts-more {more = λ (k : ℕ). (k < length c.args.sets.now) × IsPassed rest (at + 1) k} cell
+      counts = counts-more {more = λ (k : ℕ). (k < length c.args.sets.now) × IsPassedCell rest (at + 1) k} cell
           (counts-same i.counts (λ j on. there j (λ e. on.1 at (omega arith) (omega arith) (sym (e ∙ here_is)))) (λ j on. on) (λ j on. on))
           (λ j on. elim (cases_eq j cell) [
             | inl e ↦ inl e

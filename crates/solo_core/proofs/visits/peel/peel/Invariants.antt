@@ -1,10 +1,10 @@
-use Rattle.solo_core.specs.PeeledHouses.{AreAllCounts, AreSettled, IsPeeled, IsRest}
+use Rattle.solo_core.specs.PeeledHouses.{AreAllCounts, AreSettledCells, IsPeeled, IsRest}
 use Rattle.solo_core.proofs.visits.peel.peel.Given as goal
 
 abbrev pub invariant-loop-turn : goal.invariant-loop-turn
 invariant-loop-turn l = record {
   peeled : IsPeeled l.values l.fn.sets l.sets;
   counts : AreAllCounts l.sets l.counts.some l.counts.single l.counts.shared;
-  settled : AreSettled l.sets l.rest l.settled;
+  settled : AreSettledCells l.sets l.rest l.settled;
   rest : IsRest l.values l.sets l.rest;
 }
