@@ -1,92 +1,88 @@
-//! A small rule set for the tests: cells in a row, the first and the last of them given, and no two neighbours equal.
+//! A small rule set for the tests: cells in a row, the first of them 0, and no two neighbours equal.
 
-ghost use Rattle.std.specs.Prelude.{◌≡◌, ℕ, ◌+◌, ◌/◌, ◌<◌, ◌≤◌, ◌&&◌, ◌||◌, ◌==◌, not, true, false, length, refl};
-ghost use Rattle.grid_core.specs.Candidates.{any_below};
-ghost use Rattle.engine_core.specs.Filling.{strikes_by_fillings};
-ghost use Rattle.engine_core.specs.Sets.{has_bit as is_set, IsBitsOf};
-ghost use Rattle.engine_core.specs.HouseSets.{IsDecided};
-ghost use Rattle.core_tests.specs.Neighbours.{neighbours, differ};
-ghost use Rattle.engine_core.specs.declared.mode.Mode.TheVariants.{Queue};
+ghost use Rattle.std.specs.Prelude.{◌≡◌, ◌==◌, ◌<◌, ◌≤◌, ℕ, refl, true};
+ghost use Rattle.std.specs.Int.{bit_at};
+ghost use Rattle.grid_core.specs.Board.{cells_of, has};
+ghost use Rattle.engine_core.specs.Mode.{is_queue};
+ghost use Rattle.engine_core.specs.declared.mode.Mode.{Mode};
+ghost use Rattle.engine_core.specs.declared.mode.Mode.TheVariants.{Queue, Sweep};
+ghost use Rattle.core_tests.specs.Neighbours.{neighbours, has_other};
 
-use engine_core::{Mode, PlainPosition, Rules, Searchable, apply, gather, has_bit};
+use engine_core::{Mode, PlainPosition, Rules, Searchable, apply};
 use grid_core::{Board, Grid};
 use std::alloc::{AllocError, Global};
 
-/// Cells in a row, closed by a queue.
+/// How boards of such rules are closed.
+pub trait Way: Copy {
+    const MODE: Mode;
+
+    ghost MODE: { Mode };
+}
+
+#[derive(Clone, Copy)]
+pub struct ByQueue;
+
+impl Way for ByQueue {
+    const MODE: Mode = Mode::Queue;
+
+    ghost MODE = { Queue };
+}
+
+#[derive(Clone, Copy)]
+pub struct BySweeps;
+
+impl Way for BySweeps {
+    const MODE: Mode = Mode::Sweep;
+
+    ghost MODE = { Sweep };
+}
+
+/// Cells in a row.
 #[derive(Drop)]
-pub struct Neighbours {
+pub struct Neighbours<W> {
     pub cells: usize,
     pub values: u8,
-    pub first: u8,
-    pub last: u8,
+    pub way: W,
     ghost two: { 2 ≤ cells },
     ghost few_cells: { cells ≤ 65536 },
     ghost some: { 1 ≤ values },
     ghost few_values: { values ≤ 31 },
-    ghost first_in: { first < values },
-    ghost last_in: { last < values },
 }
 
-/// Whether a value below `values` other than `value` is in the set.
-fn has_other(set: u32, values: u8, value: u8) -> bool
-    requires { values ≤ 31 }
-    ensures { result ≡ any_below (λ u. not (u == value) && is_set set u) values }
+/// As bits, the values that the cell beside this one may keep: those besides which this cell has another.
+fn kept_beside(board: &Board, cell: usize) -> u32
+    requires cell_in { cell < cells_of board.now }
+    requires few { board.now.values ≤ 31 }
+    ensures { (v : ℕ) → v < board.now.values
+        → (bit_at result v == 1) ≡ has_other board.now.values (has board.now cell) v }
 {
-    for other in 0..values {
-        if other != value && has_bit(set, other) {
-            return true;
-        }
+    match board.count(cell) {
+        0 => 0,
+        1 => !board.bits(cell),
+        _ => !0,
     }
-    false
 }
 
-/// The values of the set for which the neighbour's set has another value.
-fn keep_one(set: u32, beside: u32, values: u8) -> u32
-    requires { values ≤ 31 }
-    ensures { IsBitsOf (λ v. is_set set v
-        && any_below (λ u. not (u == v) && is_set beside u) values) values result }
-{
-    let mut kept = 0u32;
-    for value in 0..values {
-        if has_bit(set, value) && has_other(beside, values, value) {
-            kept |= 1 << value;
-        }
-    }
-    kept
-}
-
-/// Decides what is kept of the two sets of a house.
-fn keep(values: u8, sets: &[u32], kept: &mut [u32])
-    requires few { values ≤ 31 }
-    requires two { length sets.now ≡ 2 }
-    requires room { length kept.old ≡ 2 }
-    ensures { IsDecided values (strikes_by_fillings differ) sets.now kept.new }
-{
-    kept[0] = keep_one(sets[0], sets[1], values);
-    kept[1] = keep_one(sets[1], sets[0], values);
-}
-
-impl Rules for Neighbours {
+impl<W: Way> Rules for Neighbours<W> {
     ghost use Rattle.core_tests.specs.NeighboursLaws.{neighbours-lawful};
 
     type Scratch = ();
 
     const SETTLED: bool = true;
 
-    const MODE: Mode = Mode::Queue;
+    const MODE: Mode = W::MODE;
 
-    ghost system = { λ r. neighbours true r.cells r.values r.first r.last };
+    ghost system = { λ r. neighbours (is_queue W.MODE) r.cells r.values };
 
     ghost SETTLED = { true };
 
-    ghost MODE = { Queue };
+    ghost MODE = { W.MODE };
 
     ghost mode_is = { λ _. refl };
 
     ghost serves = { λ _ _. Unit {0} };
 
-    ghost lawful = { λ r. neighbours-lawful true r.cells r.values r.first r.last r.two r.few_cells
-        r.some r.few_values };
+    ghost lawful = { λ r. neighbours-lawful (is_queue W.MODE) r.cells r.values r.two r.few_cells r.some r.few_values };
 
     ghost settled_is = { λ _. refl };
 
@@ -105,7 +101,7 @@ impl Rules for Neighbours {
     }
 
     fn bound(&self) -> usize {
-        self.cells * usize::from(self.values)
+        self.cells * usize::from(self.values - 1) + self.cells
     }
 
     fn scope_len(&self, _house: usize) -> usize {
@@ -117,19 +113,16 @@ impl Rules for Neighbours {
     }
 
     fn house_at(&self, place: usize, from: usize) -> Option<usize> {
-        if from < place {
-            return Some(place - 1);
-        }
-        if from > place || place + 1 == self.cells {
+        let first = from.max(place.saturating_sub(1));
+        if first > place || first + 1 == self.cells {
             return None;
         }
-        Some(place)
+        Some(first)
     }
 
     fn start(&self, board: &mut Board) {
         board.fill();
-        board.keep_only(0, self.first);
-        board.keep_only(self.cells - 1, self.last);
+        board.keep_only(0, 0);
     }
 
     fn scratch(&self, _alloc: Global) -> Result<(), AllocError> {
@@ -137,30 +130,19 @@ impl Rules for Neighbours {
     }
 
     fn visit(&self, house: usize, board: &mut Board, _scratch: &mut ()) -> bool {
-        let places = [house as u32, house as u32 + 1];
-        let mut sets = [0u32; 2];
-        let mut kept = [0u32; 2];
-        gather(board, &places, &mut sets);
-        keep(self.values, &sets, &mut kept);
-        apply(board, &places, &kept)
+        let kept = [kept_beside(board, house + 1), kept_beside(board, house)];
+        apply(board, &[house as u32, house as u32 + 1], &kept)
     }
 
     fn accept(&self, _scratch: &mut (), grid: &Grid) -> bool {
-        if grid.get(0) != self.first {
-            return false;
-        }
-        if grid.get(self.cells - 1) != self.last {
-            return false;
-        }
+        let mut holds = grid.get(0) == 0;
         for house in 0..self.cells - 1 {
-            if grid.get(house) == grid.get(house + 1) {
-                return false;
-            }
+            holds &= grid.get(house) != grid.get(house + 1);
         }
-        true
+        holds
     }
 }
 
-impl Searchable for Neighbours {
-    type Position = PlainPosition<Neighbours>;
+impl<W: Way> Searchable for Neighbours<W> {
+    type Position = PlainPosition<Neighbours<W>>;
 }

@@ -63,7 +63,7 @@ fn start_closes<R: Searchable>(store: &mut Store<R>, rules: &R, small: &Small) -
         && store.settles(rules) == (full && small.accepts(&grid_of(&plain)))
 }
 
-/// Whether the start board without 1 in a cell is closed as by the plain program.
+/// Whether the start board without the last value in a cell is closed as by the plain program.
 fn closes_without<R: Searchable>(
     alloc: Global,
     store: &mut Store<R>,
@@ -73,14 +73,15 @@ fn closes_without<R: Searchable>(
 ) -> Result<bool, AllocError>
     requires { FitsIn (needs_of (R.system rules.now)) store.old.made }
 {
-    if cell >= rules.cells().min(CELLS) || rules.values() < 2 {
+    let last = rules.values().saturating_sub(1);
+    if cell >= rules.cells().min(CELLS) || last >= 6 {
         return Ok(false);
     }
     let mut board = Board::new(alloc, rules.cells(), rules.values())?;
     rules.start(&mut board);
-    board.strike(cell, 1);
+    board.strike(cell, last);
     let mut sets = small.start;
-    sets[cell][1] = false;
+    sets[cell][usize::from(last)] = false;
     let closing = store.close_from(rules, &board);
     Ok(is_closed(store, rules, closing, small, &sets))
 }
@@ -173,7 +174,7 @@ fn finds_two_as_the_walk<R: Searchable>(
 /// The verdict and the trials of the whole walk, and the most that are open at once.
 pub(crate) type Walked = (Verdict, u64, usize);
 
-/// Whether one store closes the start board of the puzzle, and boards without 1 in a cell, as the plain program does.
+/// Whether one store closes the start board, and boards without the last value in a cell, as the plain program does.
 fn closes_as_plain<R: Searchable>(
     alloc: Global,
     store: &mut Store<R>,

@@ -33,14 +33,11 @@ impl Small {
         }
     }
 
-    /// A row whose ends are given, and in which no neighbours have one value.
-    pub(crate) fn row(cells: usize, values: usize, first: usize, last: usize) -> Small {
+    /// A row whose first cell is 0, and in which no neighbours have one value.
+    pub(crate) fn row(cells: usize, values: usize) -> Small {
         let mut row = Small::new(cells, cells, values);
-        row.start[0] = from_fn(|value| value == first);
+        row.start[0] = from_fn(|value| value == 0);
         for cell in 1..cells.min(CELLS) {
-            if cell + 1 == cells {
-                row.start[cell] = from_fn(|value| value == last);
-            }
             let both = from_fn(|other| other == cell || other + 1 == cell);
             row.houses.push(both, Condition::Different);
         }

@@ -7,4 +7,4 @@ use Rattle.core_tests.proofs.small.beside.closes_without.Goals as goal
 pub close_from-closing-requires-clause-inside : goal.close_from-closing-requires-clause-inside
 close_from-closing-requires-clause-inside g c = λ d v on.
     sym (ap (λ (K : Candidates). K d v) c.start.ensures.start)
-    ∙ without-inside (has c.start.new.board) (has c.strike.new.self) c.args.cell 1 c.strike.ensures.left d v on
+    ∙ without-inside (has c.start.new.board) (has c.strike.new.self) c.args.cell _ c.strike.ensures.left d v on
