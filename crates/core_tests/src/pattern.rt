@@ -28,30 +28,8 @@ const FIXED: usize = 64;
 /// The most cells of a row.
 const CELLS: usize = OPEN + FIXED;
 
-/// Clues, and the cells that each needs.
-static CLUES: [(&str, usize); 21] = [
-    ("", 0),
-    ("1", 1),
-    ("2", 2),
-    ("3", 3),
-    ("4", 4),
-    ("5", 5),
-    ("6", 6),
-    ("1.1", 3),
-    ("1.2", 4),
-    ("2.1", 4),
-    ("1.3", 5),
-    ("2.2", 5),
-    ("3.1", 5),
-    ("1.4", 6),
-    ("2.3", 6),
-    ("3.2", 6),
-    ("4.1", 6),
-    ("1.1.1", 5),
-    ("1.1.2", 6),
-    ("1.2.1", 6),
-    ("2.1.1", 6),
-];
+/// All clues that six cells have room for. The first has no run.
+const CLUES: &str = " 1 2 3 4 5 6 1.1 1.2 2.1 1.3 2.2 3.1 1.4 2.3 3.2 4.1 1.1.1 1.1.2 1.2.1 2.1.1";
 
 /// Where the long run of a row stands, if it has one.
 #[derive(Clone, Copy)]
@@ -146,6 +124,15 @@ fn lengths(clue: &str) -> u32 {
     lengths
 }
 
+/// How many cells a clue needs: each second byte is a point, and stands for the white cell between two runs.
+fn least(clue: &str) -> usize {
+    let mut cells = clue.len() / 2;
+    for byte in clue.bytes() {
+        cells = cells.saturating_add(usize::from(byte.saturating_sub(b'0')));
+    }
+    cells
+}
+
 /// The rules of one row of so many cells with the clue of these pieces, whose columns have none.
 fn rules_of(alloc: Global, cells: usize, pieces: [&str; 3]) -> Result<PatternLines, Fail> {
     let mut id = format!(in alloc; "{cells}x1:")?;
@@ -238,8 +225,8 @@ fn agrees(alloc: Global, row: Row<'_>) -> Result<bool, Fail> {
 /// The same of all rows of up to six open cells.
 fn agree(alloc: Global, long: Long) -> Result<bool, Fail> {
     for open in 1..=OPEN {
-        for &(clue, least) in CLUES.iter() {
-            if least <= open && !agrees(alloc, Row { clue, open, long })? {
+        for clue in CLUES.split(' ') {
+            if least(clue) <= open && !agrees(alloc, Row { clue, open, long })? {
                 return Ok(false);
             }
         }

@@ -16,7 +16,7 @@ pub(crate) use houses::{Condition, House};
 use pattern_core::PatternLines;
 pub(crate) use puzzles::Small;
 use solo_core::{Crossings, Singles, SoloHouses};
-use std::alloc::{AllocError, Global};
+use std::alloc::Global;
 use std::array::from_fn;
 use std::test::Fail;
 
@@ -151,26 +151,18 @@ fn short_walks_have_their_trials(rt: HostRuntime) -> Result<(), Fail> {
     Ok(())
 }
 
-/// The grid whose first eight cells are these bits.
-pub(crate) fn grid_of_bits(alloc: Global, size: Size, bits: u32) -> Result<Grid, AllocError> {
-    let mut grid = Grid::new(alloc, size.cells())?;
-    write_numbers(
-        &mut grid,
-        &from_fn(|place| (bits >> place.min(8) & 1) as usize),
-    );
-    Ok(grid)
-}
-
-/// Whether the puzzle whose clues are the runs of the grid with these bits goes as by the plain program. The grid solves it.
+/// Whether the puzzle whose clues are the runs of the grid with these bits, eight at most, goes as by the plain program. The
+/// grid solves it.
 fn goes_as_plain(alloc: Global, size: Size, bits: u32) -> Result<bool, Fail> {
-    let grid = grid_of_bits(alloc, size, bits)?;
+    let numbers = from_fn(|place| (bits >> place.min(8) & 1) as usize);
+    let mut grid = Grid::new(alloc, size.cells())?;
+    write_numbers(&mut grid, &numbers);
     if !grid.fits(size.cells(), 2) {
         return Ok(false);
     }
     let puzzle = PatternPuzzle::of_grid(alloc, size, &grid)?;
     let (rules, small) = (PatternLines::new(alloc, &puzzle)?, Small::pattern(&puzzle));
-    let solved = small.accepts(&from_fn(|place| (bits >> place.min(8) & 1) as usize));
-    Ok(solved && plain_trials(alloc, &rules, &small)?.is_some())
+    Ok(small.accepts(&numbers) && plain_trials(alloc, &rules, &small)?.is_some())
 }
 
 #[test]
