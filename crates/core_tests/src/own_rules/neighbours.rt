@@ -82,7 +82,7 @@ impl<W: Way> Rules for Neighbours<W> {
 
     ghost serves = { λ _ _. Unit {0} };
 
-    ghost lawful = { λ r. neighbours-lawful (is_queue W.MODE) r.cells r.values r.two r.few_cells r.some r.few_values };
+    ghost lawful = { λ r. neighbours-lawful _ _ _ r.two r.few_cells r.some r.few_values };
 
     ghost settled_is = { λ _. refl };
 
