@@ -6,8 +6,8 @@ use Rattle.solo_core.specs.declared.fault.SoloFault.{SoloFault}
 use Rattle.solo_core.specs.declared.fault.SoloFault.TheVariants as solo
 use Rattle.solo_core.specs.declared.houses.house.NamedHouse.{NamedHouse}
 use Rattle.solo_core.specs.declared.houses.house.NamedHouse.TheVariants.{Row, Column, Block, Diagonal}
-use Rattle.solo_core.specs.declared.houses.scope.VisitName.{VisitName}
-use Rattle.solo_core.specs.declared.houses.scope.VisitName.TheVariants.{House, Crossing}
+use Rattle.solo_core.specs.declared.houses.visit.VisitName.{VisitName}
+use Rattle.solo_core.specs.declared.houses.visit.VisitName.TheVariants.{House, Crossing}
 use Rattle.commands.specs.Common.{IsSoloFault, IsSoloMade, IsSoloSolution, Solo, crossings_rules, hides_nothing, houses_rules, scopes_of, singles_rules, size_of, solo_cell, solo_extent, solo_n}
 use Rattle.commands.specs.Answers.{Text}
 use Rattle.commands.specs.CheckAnswers.{SaysFault, place_text}

@@ -3,7 +3,7 @@
 use crate::rules::solo;
 use engine_core::{Closing, RuleSet, Searchable, Store};
 use gameid_core::SoloPuzzle;
-use solo_core::{Crossings, Fillings, Singles};
+use solo_core::{Crossings, Singles, SoloFillings};
 use std::alloc::{AllocError, Global};
 use std::test::Fail;
 
@@ -34,8 +34,8 @@ fn left<S: RuleSet<Puzzle = SoloPuzzle>>(
 
 #[test]
 fn a_pair_is_taken_by_houses_and_not_by_singles(rt: HostRuntime) -> Result<(), Fail> {
-    let first = left::<Fillings>(rt.alloc(), PAIR, 2)?;
-    let second = left::<Fillings>(rt.alloc(), PAIR, 6)?;
+    let first = left::<SoloFillings>(rt.alloc(), PAIR, 2)?;
+    let second = left::<SoloFillings>(rt.alloc(), PAIR, 6)?;
     assert_eq!(rt; (first, second), (0b1100, 0b0011));
     assert_eq!(rt; left::<Singles>(rt.alloc(), PAIR, 2)?, 0b1111);
     Ok(())
@@ -44,7 +44,7 @@ fn a_pair_is_taken_by_houses_and_not_by_singles(rt: HostRuntime) -> Result<(), F
 #[test]
 fn what_a_block_claims_is_struck_by_crossings_alone(rt: HostRuntime) -> Result<(), Fail> {
     for place in 3..6 {
-        let fillings = left::<Fillings>(rt.alloc(), CLAIMED, place)?;
+        let fillings = left::<SoloFillings>(rt.alloc(), CLAIMED, place)?;
         let crossings = left::<Crossings>(rt.alloc(), CLAIMED, place)?;
         assert_eq!(rt; (fillings, crossings), (0b1_1111_1111, 0b1_1111_1110));
     }

@@ -4,7 +4,7 @@ use crate::rules::{lights, pattern, solo, tents};
 use engine_core::{Searchable, Store, Verdict};
 use gameid_core::Game;
 use grid_core::Grid;
-use solo_core::{Crossings, Fillings};
+use solo_core::{Crossings, SoloFillings};
 use std::alloc::{AllocError, Global};
 use std::test::Fail;
 
@@ -24,7 +24,7 @@ fn sizes<R: Searchable>(alloc: Global, rules: &R) -> Result<Option<[usize; 5]>, 
 fn stores_have_their_sizes(rt: HostRuntime) -> Result<(), Fail> {
     let lines = pattern(rt.alloc(), "2x2:1/1/1/1")?;
     assert_eq!(rt; sizes(rt.alloc(), &lines)?, Some([4, 8, 8, 4, 2]));
-    let diagonals = solo::<Fillings>(rt.alloc(), "2x2x:p")?;
+    let diagonals = solo::<SoloFillings>(rt.alloc(), "2x2x:p")?;
     assert_eq!(rt; sizes(rt.alloc(), &diagonals)?, Some([16, 64, 238, 14, 4]));
     let crossings = solo::<Crossings>(rt.alloc(), "2x2:p")?;
     assert_eq!(rt; sizes(rt.alloc(), &crossings)?, Some([16, 64, 604, 28, 6]));

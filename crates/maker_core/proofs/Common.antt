@@ -78,7 +78,7 @@ pub use Rattle.pattern_core.specs.Lines.{clue_of}
 unfoldable pub use Rattle.pattern_core.specs.Lines.{has_runs}
 pub use Rattle.pattern_core.specs.Solutions.{IsPatternSolution}
 pub use Rattle.solo_core.specs.Houses.{block_of, column_of, row_of, solo_cells}
-pub use Rattle.solo_core.specs.Houses.{IsHouseOf, lies_in}
+pub use Rattle.solo_core.specs.Houses.{IsSoloHouse, lies_in_house}
 pub use Rattle.solo_core.specs.RuleLaws.{houses_lawful}
 pub use Rattle.solo_core.specs.RuleSets.{houses_rules}
 unfoldable pub use Rattle.solo_core.specs.RuleSets.{start}

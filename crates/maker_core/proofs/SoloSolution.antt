@@ -1,5 +1,5 @@
 -- Solo: the grid of orders, and the puzzle that gives all cells.
-use Rattle.maker_core.proofs.Common.{All-from_get_or, All-get_or, All-map, AreOrders, Block, Bool, Column, Diagonal, IfSome, IsHouseOf, IsInside, IsOnlySolution, IsSolo, IsSoloSize, IsSoloSolution, IsThinnedFrom, IsTrueOf, List, NamedHouse, None, Option, Outcome.OneSolution, Row, Solo, Solves, Some, TellsOne, all_given, ap, append-nil, append_assoc, arith, block_of, clue_is, common_steps, div-add-mod', div_below, eqb-true, false, first_number, get_or-map, get_or-map-range_with_len, houses_lawful, houses_rules, is_clue, is_one, is_some, length, length-map, length-map-range_with_len, length-take-le, lies_in, map, map_more, mod_below, mul-add-lt, mul-pos, old_number, rearranged, recursion_from_All, refl, replicate, rows, rule_from_test, same_from_place, same_number_lists, set_at, single, slice_index, slice_set, solo_game, solo_passes, solo_puzzle, start, suc, sym, take, test_from_rule, true, true≢false, ℕ, ◌%◌, ◌*◌, ◌++◌, ◌+◌, ◌-◌, ◌/◌, ◌<◌, ◌∙◌, ◌∷◌, ◌≡◌, ◌≤◌}
+use Rattle.maker_core.proofs.Common.{All-from_get_or, All-get_or, All-map, AreOrders, Block, Bool, Column, Diagonal, IfSome, IsSoloHouse, IsInside, IsOnlySolution, IsSolo, IsSoloSize, IsSoloSolution, IsThinnedFrom, IsTrueOf, List, NamedHouse, None, Option, Outcome.OneSolution, Row, Solo, Solves, Some, TellsOne, all_given, ap, append-nil, append_assoc, arith, block_of, clue_is, common_steps, div-add-mod', div_below, eqb-true, false, first_number, get_or-map, get_or-map-range_with_len, houses_lawful, houses_rules, is_clue, is_one, is_some, length, length-map, length-map-range_with_len, length-take-le, lies_in_house, map, map_more, mod_below, mul-add-lt, mul-pos, old_number, rearranged, recursion_from_All, refl, replicate, rows, rule_from_test, same_from_place, same_number_lists, set_at, single, slice_index, slice_set, solo_game, solo_passes, solo_puzzle, start, suc, sym, take, test_from_rule, true, true≢false, ℕ, ◌%◌, ◌*◌, ◌++◌, ◌+◌, ◌-◌, ◌/◌, ◌<◌, ◌∙◌, ◌∷◌, ◌≡◌, ◌≤◌}
 use Rattle.maker_core.proofs.FirstTries.{start_found, start_only}
 
 -- Two cells of one row, column or block of the grid before it is shuffled hold different numbers: each is a number below
@@ -125,8 +125,8 @@ module _ (c r : ℕ) (numbers rows columns : List ℕ) (orders : AreOrders c r n
         let old = block_apart orders.c_some orders.r_some (old_x j) (old_x k) (old_y j) (old_y k) stacks bands same_first in
         same_line (c * r) j k (same_y old.1) (same_x old.0)
 
-    apart_in_house : (house : NamedHouse) → IsHouseOf (all_given c r false grid) house
-        → lies_in (all_given c r false grid) house j ≡ true → lies_in (all_given c r false grid) house k ≡ true → j ≡ k
+    apart_in_house : (house : NamedHouse) → IsSoloHouse (all_given c r false grid) house
+        → lies_in_house (all_given c r false grid) house j ≡ true → lies_in_house (all_given c r false grid) house k ≡ true → j ≡ k
     apart_in_house (Row y) is a b = apart_in_row (eqb-true _ _ a ∙ sym (eqb-true _ _ b))
     apart_in_house (Column x) is a b = apart_in_column (eqb-true _ _ a ∙ sym (eqb-true _ _ b))
     apart_in_house (Block n) is a b = apart_in_block (eqb-true _ _ a ∙ sym (eqb-true _ _ b))

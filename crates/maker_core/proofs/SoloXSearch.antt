@@ -1,5 +1,5 @@
 -- Solo X: flips of a grid, and what the search of a top row gives.
-use Rattle.maker_core.proofs.Common.{All-append, All-from_get_or, All-get_or, All-map, All-replicate, Block, Bool, Column, Diagonal, IfSome, IsAnswer, IsGrid, IsHouseOf, IsOrder, IsSolo, IsSoloSize, IsSoloSolution, IsTrueOf, List, NamedHouse, None, Option, Outcome, Outcome.GaveUp, Outcome.NoSolution, Outcome.OneSolution, Outcome.SeveralSolutions, Row, RuleSystem, Solo, Solves, Some, Stream, Verdict, all_given, ap, arith, block_of, cases_eq, column_of, common_steps, div-add-mod', div-mul-add, div_below, eq-eqb, eqb, eqb-true, false, first_grid, flipped, flipped_by_draw, flipped_from, get_or-map, get_or-map-range_with_len, house_stays, houses_rules, if◌then◌else◌, length, length-map, length-map-range_with_len, lies_alike, lies_in, line_from, map, mod-mul-add, mod_below, mul-add-lt, mul-le, mul-pos, recursion_from_All, refl, replicate, row_of, rule_from_test, same_from_place, same_number_lists, shuffled_order, slice_index, solo_cells, solo_n, solo_puzzle, suc, sym, top_row_given, true, verdict_of, x_filling, ℕ, ◌%◌, ◌*◌, ◌++◌, ◌+◌, ◌-◌, ◌/◌, ◌<◌, ◌∙◌, ◌≡◌, ◌≤◌}
+use Rattle.maker_core.proofs.Common.{All-append, All-from_get_or, All-get_or, All-map, All-replicate, Block, Bool, Column, Diagonal, IfSome, IsAnswer, IsGrid, IsSoloHouse, IsOrder, IsSolo, IsSoloSize, IsSoloSolution, IsTrueOf, List, NamedHouse, None, Option, Outcome, Outcome.GaveUp, Outcome.NoSolution, Outcome.OneSolution, Outcome.SeveralSolutions, Row, RuleSystem, Solo, Solves, Some, Stream, Verdict, all_given, ap, arith, block_of, cases_eq, column_of, common_steps, div-add-mod', div-mul-add, div_below, eq-eqb, eqb, eqb-true, false, first_grid, flipped, flipped_by_draw, flipped_from, get_or-map, get_or-map-range_with_len, house_stays, houses_rules, if◌then◌else◌, length, length-map, length-map-range_with_len, lies_alike, lies_in_house, line_from, map, mod-mul-add, mod_below, mul-add-lt, mul-le, mul-pos, recursion_from_All, refl, replicate, row_of, rule_from_test, same_from_place, same_number_lists, shuffled_order, slice_index, solo_cells, solo_n, solo_puzzle, suc, sym, top_row_given, true, verdict_of, x_filling, ℕ, ◌%◌, ◌*◌, ◌++◌, ◌+◌, ◌-◌, ◌/◌, ◌<◌, ◌∙◌, ◌≡◌, ◌≤◌}
 use Rattle.maker_core.proofs.SoloSolution.{given_first, written}
 
 -- A flip of a square grid brings each row to a row, each column to a column, and lines of one group to lines of one group.
@@ -76,9 +76,9 @@ pub ruleset flip_laws = (same_number_lists, length-flipped, flipped-at, from_bel
 -- two places lie in one house of the puzzle
 record AreTogether (p : Solo) (j k : ℕ) : Type 0 where
   house : NamedHouse
-  house_of : IsHouseOf p house
-  first : lies_in p house j ≡ true
-  second : lies_in p house k ≡ true
+  house_of : IsSoloHouse p house
+  first : lies_in_house p house j ≡ true
+  second : lies_in_house p house k ≡ true
 
 -- ---- diagonals
 -- the diagonal that comes to a diagonal: by one flip alone the other
@@ -124,7 +124,7 @@ module _ (p : Solo) (c_low : 0 < p.c) (r_low : 0 < p.r) (across down : Bool) whe
     column_below : column_of p place < solo_n p
     column_below = mod_below place (solo_n p) some_numbers
 
-    in_diagonal : {d : ℕ} → d < 2 → lies_in p (Diagonal d) place ≡ true → lies_in p (Diagonal (diagonal_from across down d)) (from place) ≡ true
+    in_diagonal : {d : ℕ} → d < 2 → lies_in_house p (Diagonal d) place ≡ true → lies_in_house p (Diagonal (diagonal_from across down d)) (from place) ≡ true
     in_diagonal few on = eq-eqb _ _
         (rw (row, column) (diagonal_is across down few column_below row_below (eqb-true _ _ on)))
 
@@ -142,7 +142,7 @@ module _ (p : Solo) (c_low : 0 < p.c) (r_low : 0 < p.r) (across down : Bool) whe
       let stack = line_from-together across p.c refl r_low (column_below lj) (column_below lk) parts.1 in
       rw (row lj, row lk, column lj, column lk, band, stack) refl
 
-  together : (house : NamedHouse) → IsHouseOf p house → {j k : ℕ} → j < solo_cells p → k < solo_cells p → lies_in p house j ≡ true → lies_in p house k ≡ true
+  together : (house : NamedHouse) → IsSoloHouse p house → {j k : ℕ} → j < solo_cells p → k < solo_cells p → lies_in_house p house j ≡ true → lies_in_house p house k ≡ true
       → AreTogether p (from j) (from k)
   together (Row y) is lj lk a b = record {
     house = Row (line_from down (solo_n p) y);

@@ -3,7 +3,7 @@ use Rattle.maker_core.specs.Below.{IsSoloSolution, Solo, Solves, all_below-at, a
 use Rattle.std.proofs.Common.{◌≡◌, ℕ, zero, suc, ◌+◌, ◌<◌, ◌≤◌, true, Some, List, length, refl, sym, ◌∙◌, ap, subst, arith}
 use Rattle.std.proofs.lemmas.Option.{none-some}
 use Rattle.solo_core.specs.declared.houses.house.NamedHouse.{NamedHouse}
-use Rattle.solo_core.specs.Houses.{IsHouseOf, lies_in}
+use Rattle.solo_core.specs.Houses.{IsSoloHouse, lies_in_house}
 use Rattle.solo_core.specs.SolutionLaws.{given_from_test, test_from_given}
 use Rattle.maker_core.specs.SoloFilling.{all_given}
 use Rattle.maker_core.specs.Thinning.{IsThinnedFrom, IsGame}
@@ -26,10 +26,10 @@ given_in givens {place} e = grind (arith, get_or_past givens place 0)
 
 -- ---- solutions
 -- puzzles of one size have the same houses
-pub house_stays : (p : Solo) (givens : List ℕ) (house : NamedHouse) → IsHouseOf p house → IsHouseOf (solo_puzzle p.c p.r p.x givens) house
+pub house_stays : (p : Solo) (givens : List ℕ) (house : NamedHouse) → IsSoloHouse p house → IsSoloHouse (solo_puzzle p.c p.r p.x givens) house
 house_stays p givens house is = grind arith
 
-pub lies_alike : (p : Solo) (givens : List ℕ) (house : NamedHouse) (place : ℕ) → lies_in p house place ≡ lies_in (solo_puzzle p.c p.r p.x givens) house place
+pub lies_alike : (p : Solo) (givens : List ℕ) (house : NamedHouse) (place : ℕ) → lies_in_house p house place ≡ lies_in_house (solo_puzzle p.c p.r p.x givens) house place
 lies_alike p givens house place = grind arith
 
 -- the clues of p are clues of the puzzle with these givens

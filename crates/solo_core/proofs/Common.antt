@@ -18,14 +18,14 @@ pub use Rattle.engine_core.specs.HouseList.{FitsPlaces, Listed}
 pub use Rattle.engine_core.specs.HouseSetsLaws.{by_fillings-met, kept-decided, length-sets_at, sets_at-small, strikes_at-here, strikes_at-some}
 pub use Rattle.engine_core.specs.HouseList.{all_places}
 pub use Rattle.solo_core.specs.BoundLaws.{bound_is, count_plain, count_x, crossings_rules-bound, house_count}
-pub use Rattle.solo_core.specs.Common.{AreDifferent, Block, Candidates, Column, Decision, Diagonal, FoldsTo, House, IsDecided, IsGrid, IsHouseOf, IsShownBy}
+pub use Rattle.solo_core.specs.Common.{AreDifferent, Block, Candidates, Column, Decision, Diagonal, FoldsTo, House, IsDecided, IsGrid, IsSoloHouse, IsShownBy}
 pub use Rattle.solo_core.specs.Common.{IsSolo, IsSoloSolution, IsSound, MatchBool-at_false, MatchBool-at_true, NamedHouse, Row, Set, Solo, all_below-from}
 pub use Rattle.solo_core.specs.Common.{and_cases, and_from, and_parts, and_right, any_below-here, any_below-same, any_below-some, both-bits, cases_Bool}
 pub use Rattle.solo_core.specs.Common.{cases_eq, cases_lt, different-filter, div-add-mod', div-mul-add, either-bits, eq-eqb, eqb-true, false_from_ne_true}
 pub use Rattle.solo_core.specs.Common.{filter, filter-append, filter_of_map_range_with_len_more, fun_ext, get_or-append_right, get_or-map}
 pub use Rattle.solo_core.specs.Common.{get_or-map-range_with_len, get_or-range_with_len, get_or-set_at, get_or-set_other, get_or_append_left, get_or_default}
 pub use Rattle.solo_core.specs.Common.{get_or_past, given_stands, has_bit, has_in, has_place, has_place-at, has_place-here, has_value, house_of, house_places}
-pub use Rattle.solo_core.specs.Common.{houses_of, is_struck, length-map, length-map-range_with_len, length-range_with_len, length-set, lies_in, list_any}
+pub use Rattle.solo_core.specs.Common.{houses_of, is_struck, length-map, length-map-range_with_len, length-range_with_len, length-set, lies_in_house, list_any}
 pub use Rattle.solo_core.specs.Common.{lt-ltb, map-append, map-id, map-range_with_len_more, mod-mul-add, mod_below, mul-add-lt, mul-le, nat_tests, ne_eqb}
 pub use Rattle.solo_core.specs.Common.{no_house, not-false, not-true, not_from_false, numbers_of, one_shl, or_cases, or_left, or_parts, or_right}
 pub use Rattle.solo_core.specs.Common.{place-filter, place-kept, places_of, pow_pos, power-bits, range_with_len, sets_at, solo_cells, solo_n, strikes_at}

@@ -50,7 +50,7 @@ pub ruleset quick_laws = (both-bits, goes_on_free, begun-none, goes_on_swapped)
 
 pub ruleset reach_laws = (over_none, over_next)
 
-pub ruleset scopes_laws = (column_in, first-at, second-at, scopes-length, row_in, house-named, crossing-after, all-length)
+pub ruleset numbers_laws = (column_in, first-at, second-at, scopes-length, row_in, house-named, crossing-after, all-length)
 
 pub ruleset start_laws = (started, started-none, started-all, started-blank, started-given, started-there)
 

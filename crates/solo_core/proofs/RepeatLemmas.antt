@@ -1,5 +1,5 @@
 -- What a house that holds a number twice says of the grid, and what a house that does not rules out.
-use Rattle.solo_core.proofs.Common.{Block, Bool, Column, Diagonal, FailsSolo, Given, IsGrid, IsHouseOf, IsSolo, IsSoloFault, IsSoloSolution, List, NamedHouse, None, Option, Repeats, Row, Solo, Some, [], all_houses, and_cases, ap, arith, cases_eq, common_steps, contains_from_member, differ_in, different_from_no_repeat, each_house, eqb, eqb-true, false, false_from_ne_true, fault_of, get_or, get_or-map, get_or_default, given_from_test, given_stands, given_tests, has_bit, house_tests, houses_of, inl, inr, is_solo_solution, is_some, length, length-map, list_any, lists_house, nat_tests, no_repeat, no_repeat_from_different, not, not-false, numbers_of, or_cases, places_of, refl, rule_from_test, slice_index, solo_cells, solo_n, subst, suc, sym, test_from_rule, true, true≢false, zero-bits, ℕ, ◌++◌, ◌+◌, ◌<◌, ◌||◌, ◌∙◌, ◌∷◌, ◌≡◌, ◌≤◌}
+use Rattle.solo_core.proofs.Common.{Block, Bool, Column, Diagonal, FailsSolo, Given, IsGrid, IsSoloHouse, IsSolo, IsSoloFault, IsSoloSolution, List, NamedHouse, None, Option, Repeats, Row, Solo, Some, [], all_houses, and_cases, ap, arith, cases_eq, common_steps, contains_from_member, differ_in, different_from_no_repeat, each_house, eqb, eqb-true, false, false_from_ne_true, fault_of, get_or, get_or-map, get_or_default, given_from_test, given_stands, given_tests, has_bit, house_tests, houses_of, inl, inr, is_solo_solution, is_some, length, length-map, list_any, lists_house, nat_tests, no_repeat, no_repeat_from_different, not, not-false, numbers_of, or_cases, places_of, refl, rule_from_test, slice_index, solo_cells, solo_n, subst, suc, sym, test_from_rule, true, true≢false, zero-bits, ℕ, ◌++◌, ◌+◌, ◌<◌, ◌||◌, ◌∙◌, ◌∷◌, ◌≡◌, ◌≤◌}
 use Rattle.solo_core.specs.declared.fault.SoloFault.{SoloFault}
 use Rattle.std.specs.List.{AllByRecursion}
 use Rattle.std.proofs.lemmas.List.Elements.{All-map, recursion_from_All}
@@ -22,10 +22,10 @@ pub repeat_shown : (xs : List ℕ) (i j : ℕ) → i < j → j < length xs → s
 repeat_shown xs i j low within same = sym (false_from_ne_true _ (λ on. different_from_no_repeat xs on i j low within same))
 
 -- the numbers of a house, one by one
-pub len_of : (p : Solo) (g : List ℕ) (house : NamedHouse) → IsSolo p → IsHouseOf p house → length (numbers_of p g house) ≡ solo_n p
+pub len_of : (p : Solo) (g : List ℕ) (house : NamedHouse) → IsSolo p → IsSoloHouse p house → length (numbers_of p g house) ≡ solo_n p
 len_of p g house ok is = length-map (places_of p house) _ ∙ (lists_house ok house is).len
 
-pub number_at : (p : Solo) (g : List ℕ) (house : NamedHouse) (k place number : ℕ) → IsSolo p → IsHouseOf p house → k < solo_n p
+pub number_at : (p : Solo) (g : List ℕ) (house : NamedHouse) (k place number : ℕ) → IsSolo p → IsSoloHouse p house → k < solo_n p
     → place ≡ slice_index (places_of p house) k → number ≡ slice_index g place → number ≡ get_or (numbers_of p g house) k 0
 number_at p g house k place number ok is lt at read =
     let len = (lists_house ok house is).len in
@@ -52,7 +52,7 @@ seen_all xs k seen h all = grind (arith, common_steps, no_repeat_from_different)
 
 module _ (p : Solo) (ok : IsSolo p) (g : List ℕ) where
   -- a house that holds a number twice
-  repeats_in : (house : NamedHouse) → IsHouseOf p house → no_repeat (numbers_of p g house) ≡ false → Repeats p g house
+  repeats_in : (house : NamedHouse) → IsSoloHouse p house → no_repeat (numbers_of p g house) ≡ false → Repeats p g house
   repeats_in house is e =
       let w = repeat_found (numbers_of p g house) e in
       let l = lists_house ok house is in
@@ -73,7 +73,7 @@ module _ (p : Solo) (ok : IsSolo p) (g : List ℕ) where
       )
 
   -- and one that does not
-  none_repeats : (house : NamedHouse) → IsHouseOf p house → no_repeat (numbers_of p g house) ≡ true → Repeats p g house → ⊥
+  none_repeats : (house : NamedHouse) → IsSoloHouse p house → no_repeat (numbers_of p g house) ≡ true → Repeats p g house → ⊥
   none_repeats house is holds (j, k, lj, lk, ne, a, b, same) = differ_in (lists_house ok house is) g holds j k lj lk ne a b same
 
   fault_is : (house : NamedHouse) → FailsSolo p g (fault_of house) ≡ Repeats p g house
@@ -163,7 +163,7 @@ module _ (p : Solo) (ok : IsSolo p) (g : List ℕ) where
   solo_known = AllByRecursion-append _ (given_tests p) (house_tests p) (known_tests (FailsSolo p g) (givens ∷ []) made)
       (house_by (IsKnown (FailsSolo p g)) (λ h d lt. by (get_or (houses_of p) h d) (all_houses p h d lt) (no_repeat_in (get_or (houses_of p) h d)) refl))
     where
-      by : (house : NamedHouse) → IsHouseOf p house → (b : Bool) → no_repeat_in house ≡ b → IsKnown (FailsSolo p g) (fault_of house)
+      by : (house : NamedHouse) → IsSoloHouse p house → (b : Bool) → no_repeat_in house ≡ b → IsKnown (FailsSolo p g) (fault_of house)
       by house is true on = inr (fault_holds house (none_repeats house is on))
       by house is false off = inl (fault_fails house (repeats_in house is off))
 

@@ -7,7 +7,7 @@ use Rattle.solo_core.specs.Crossing.{crossing_places}
 use Rattle.solo_core.specs.Meanings.{house_visits, crossing_visits, all_visits}
 use Rattle.solo_core.specs.HouseLaws.{lists_house, listed-same, all_houses, each_value, row_in, column_in}
 use Rattle.solo_core.specs.RuleSets.{deciding, filled_houses, house_by, visited_house, crossings_rules, crossings_of}
-use Rattle.solo_core.specs.declared.houses.scope.VisitName.{VisitName}
+use Rattle.solo_core.specs.declared.houses.visit.VisitName.{VisitName}
 use Rattle.solo_core.specs.Scopes.{row_scope, column_scope}
 
 -- how many houses the puzzle has

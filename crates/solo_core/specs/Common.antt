@@ -31,7 +31,7 @@ pub use Rattle.grid_core.proofs.WordLemmas.{both-bits, either-bits, power-bits, 
 pub use Rattle.solo_core.specs.declared.houses.house.NamedHouse.{NamedHouse}
 pub use Rattle.solo_core.specs.declared.houses.house.NamedHouse.TheVariants.{Block, Column, Diagonal, Row}
 pub use Rattle.solo_core.specs.Houses.{block_of, solo_cells}
-pub use Rattle.solo_core.specs.Houses.{IsHouseOf, house_places, houses_of, lies_in, places_of}
+pub use Rattle.solo_core.specs.Houses.{IsSoloHouse, house_places, houses_of, lies_in_house, places_of}
 unfoldable pub use Rattle.solo_core.specs.Houses.{no_repeat}
 pub use Rattle.solo_core.specs.Bits.{IsFirstSet, NoneIsSet, has_in, is_struck}
 pub use Rattle.solo_core.specs.Solutions.{IsSoloSolution, given_stands, numbers_of}

@@ -2,7 +2,7 @@
 -- order.
 use Rattle.std.specs.Prelude.{◌≡◌, ◌≢◌, ℕ, ◌+◌, ◌<◌, ◌≤◌, true, List, [], ◌∷◌, ◌++◌, map, slice_index, Option}
 use Rattle.gameid_core.specs.FirstFailed.{IsAnswerOfCheck, tests_of}
-use Rattle.solo_core.specs.Common.{Solo, solo_cells, houses_of, lies_in, IsSoloSolution, NamedHouse, Row, Column, Block, Diagonal}
+use Rattle.solo_core.specs.Common.{Solo, solo_cells, houses_of, lies_in_house, IsSoloSolution, NamedHouse, Row, Column, Block, Diagonal}
 use Rattle.solo_core.specs.declared.fault.SoloFault.{SoloFault}
 use Rattle.solo_core.specs.declared.fault.SoloFault.TheVariants.{Given, Row as BadRow, Column as BadColumn, Block as BadBlock, Diagonal as BadDiagonal}
 
@@ -10,7 +10,7 @@ use Rattle.solo_core.specs.declared.fault.SoloFault.TheVariants.{Given, Row as B
 abbrev pub Repeats : Solo → List ℕ → NamedHouse → Type 0
 Repeats p g house =
     (j : ℕ) × (k : ℕ) × (j < solo_cells p) × (k < solo_cells p) × (j ≡ k → ⊥)
-    × (lies_in p house j ≡ true) × (lies_in p house k ≡ true) × (slice_index g j ≡ slice_index g k)
+    × (lies_in_house p house j ≡ true) × (lies_in_house p house k ≡ true) × (slice_index g j ≡ slice_index g k)
 
 -- a given that doesn't stand; a house that holds a number twice
 abbrev pub FailsSolo : Solo → List ℕ → SoloFault → Type 0

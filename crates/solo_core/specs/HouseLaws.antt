@@ -1,7 +1,7 @@
 -- Laws of the houses: each has n different places of the grid, exactly those that lie in it.
 use Rattle.std.proofs.lemmas.Grind.{common_steps}
 use Rattle.std.proofs.Common.{◌≡◌, ℕ, ◌+◌, ◌*◌, ◌/◌, ◌%◌, ◌<◌, Bool, true, false, eqb, List, [], ◌∷◌, map, length, slice_index, if◌then◌else◌, refl, sym, ap, ◌∙◌, inl, inr, arith, All, ◌↔◌, IsTrue}
-use Rattle.solo_core.specs.Common.{has_place, has_place-at, has_place-here, range_with_len, cases_lt, cases_Bool, eq-eqb, eqb-true, true≢false, false_from_ne_true, mul-add-lt, mul-le, div-mul-add, mod-mul-add, div_below, mod_below, div-add-mod', All-append, All-nil, All-cons, get_or-map-range_with_len, length-map-range_with_len, Solo, IsSolo, solo_n, AreDifferent, NamedHouse, Row, Column, Block, Diagonal, solo_cells, houses_of, IsHouseOf, lies_in, places_of}
+use Rattle.solo_core.specs.Common.{has_place, has_place-at, has_place-here, range_with_len, cases_lt, cases_Bool, eq-eqb, eqb-true, true≢false, false_from_ne_true, mul-add-lt, mul-le, div-mul-add, mod-mul-add, div_below, mod_below, div-add-mod', All-append, All-nil, All-cons, get_or-map-range_with_len, length-map-range_with_len, Solo, IsSolo, solo_n, AreDifferent, NamedHouse, Row, Column, Block, Diagonal, solo_cells, houses_of, IsSoloHouse, lies_in_house, places_of}
 use Rattle.grid_core.specs.Regions.{block_places}
 use Rattle.grid_core.proofs.RegionLemmas.{block-within}
 use Rattle.engine_core.specs.PlaceLaws.{of_first, of_rest, of_value}
@@ -119,7 +119,7 @@ module _ (c r b : ℕ) (c_pos : 0 < c) (r_pos : 0 < r) (b_in : b < c * r) where
 pub some_numbers : {p : Solo} → IsSolo p → 0 < solo_n p
 some_numbers {p} ok = omega (arith, mul-le 1 1 p.c p.r (omega arith) (omega arith))
 
-pub lists_house : {p : Solo} → IsSolo p → (house : NamedHouse) → IsHouseOf p house → Lists (places_of p house) (solo_n p) (solo_cells p) (lies_in p house)
+pub lists_house : {p : Solo} → IsSolo p → (house : NamedHouse) → IsSoloHouse p house → Lists (places_of p house) (solo_n p) (solo_cells p) (lies_in_house p house)
 unfolding block_at
 lists_house {p} ok (Row y) lt = row_lists (solo_n p) y lt
 lists_house ok (Column i) lt = falling_lists (λ y. i) (some_numbers ok) (λ y l. lt)
@@ -134,18 +134,18 @@ pub each_value : {X : Type 0} (P : X → Type 0) (f : ℕ → X) (n : ℕ) → (
 each_value P f n each k d lt = grind (arith, common_steps, length-map-range_with_len, get_or-map-range_with_len)
 
 -- they are the puzzle's, and all of them
-pub all_houses : (p : Solo) → All (IsHouseOf p) (houses_of p)
+pub all_houses : (p : Solo) → All (IsSoloHouse p) (houses_of p)
 all_houses p =
-    All-append (IsHouseOf p) _ _ (each_value (IsHouseOf p) Row (solo_n p) (λ k lt. lt))
-    (All-append (IsHouseOf p) _ _ (each_value (IsHouseOf p) Column (solo_n p) (λ k lt. lt))
-    (All-append (IsHouseOf p) _ _ (each_value (IsHouseOf p) Block (solo_n p) (λ k lt. lt)) (all_diagonals p.x refl)))
+    All-append (IsSoloHouse p) _ _ (each_value (IsSoloHouse p) Row (solo_n p) (λ k lt. lt))
+    (All-append (IsSoloHouse p) _ _ (each_value (IsSoloHouse p) Column (solo_n p) (λ k lt. lt))
+    (All-append (IsSoloHouse p) _ _ (each_value (IsSoloHouse p) Block (solo_n p) (λ k lt. lt)) (all_diagonals p.x refl)))
   where
-    all_diagonals : (x : Bool) → p.x ≡ x → All (IsHouseOf p) (if x then Diagonal 0 ∷ Diagonal 1 ∷ [] else [])
-    all_diagonals true e = All-cons (IsHouseOf p) (Diagonal 0) (Diagonal 1 ∷ []) (omega arith, e) (All-cons (IsHouseOf p) (Diagonal 1) [] (omega arith, e) (All-nil (IsHouseOf p)))
-    all_diagonals false e = All-nil (IsHouseOf p)
+    all_diagonals : (x : Bool) → p.x ≡ x → All (IsSoloHouse p) (if x then Diagonal 0 ∷ Diagonal 1 ∷ [] else [])
+    all_diagonals true e = All-cons (IsSoloHouse p) (Diagonal 0) (Diagonal 1 ∷ []) (omega arith, e) (All-cons (IsSoloHouse p) (Diagonal 1) [] (omega arith, e) (All-nil (IsSoloHouse p)))
+    all_diagonals false e = All-nil (IsSoloHouse p)
 
 -- what holds of each house of the list holds of each house of the puzzle
-pub each_house : (p : Solo) (P : NamedHouse → Type 0) → All P (houses_of p) → (house : NamedHouse) → IsHouseOf p house → P house
+pub each_house : (p : Solo) (P : NamedHouse → Type 0) → All P (houses_of p) → (house : NamedHouse) → IsSoloHouse p house → P house
 each_house p P all (Row y) lt = of_value P Row (solo_n p) (of_first P _ _ all) y lt
 each_house p P all (Column i) lt = of_value P Column (solo_n p) (of_first P _ _ (of_rest P _ _ all)) i lt
 each_house p P all (Block b) lt = of_value P Block (solo_n p) (of_first P (map Block (range_with_len 0 (solo_n p))) _

@@ -44,18 +44,18 @@ houses_of p =
     ++ (if p.x then Diagonal 0 ∷ Diagonal 1 ∷ [] else [])))
 
 -- the puzzle has the house
-abbrev pub IsHouseOf : Solo → NamedHouse → Type 0
-IsHouseOf p (Row y) = y < solo_n p
-IsHouseOf p (Column i) = i < solo_n p
-IsHouseOf p (Block b) = b < solo_n p
-IsHouseOf p (Diagonal d) = (d < 2) × (p.x ≡ true)
+abbrev pub IsSoloHouse : Solo → NamedHouse → Type 0
+IsSoloHouse p (Row y) = y < solo_n p
+IsSoloHouse p (Column i) = i < solo_n p
+IsSoloHouse p (Block b) = b < solo_n p
+IsSoloHouse p (Diagonal d) = (d < 2) × (p.x ≡ true)
 
 -- whether the place lies in the house
-abbrev pub lies_in : Solo → NamedHouse → ℕ → Bool
-lies_in p (Row y) place = row_of p place == y
-lies_in p (Column i) place = column_of p place == i
-lies_in p (Block b) place = block_of p place == b
-lies_in p (Diagonal d) place =
+abbrev pub lies_in_house : Solo → NamedHouse → ℕ → Bool
+lies_in_house p (Row y) place = row_of p place == y
+lies_in_house p (Column i) place = column_of p place == i
+lies_in_house p (Block b) place = block_of p place == b
+lies_in_house p (Diagonal d) place =
     column_of p place == (if d == 0 then row_of p place else solo_n p - 1 - row_of p place)
 
 -- its places: of a row from the left, of a column or a diagonal from the top, of a block row by row

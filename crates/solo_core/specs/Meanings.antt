@@ -1,8 +1,8 @@
 -- What the laws say of the rules of a puzzle of Solo.
 use Rattle.std.specs.Prelude.{◌≡◌, ℕ, ◌+◌, ◌-◌, ◌*◌, ◌<◌, ◌↔◌, IsTrue, true, List, ◌++◌, length, slice_index_or}
-use Rattle.solo_core.specs.Common.{Candidates, IsGrid, Solo, solo_n, RuleSystem, has_place, house_of, NamedHouse, solo_cells, houses_of, lies_in, places_of, IsSoloSolution}
-use Rattle.solo_core.specs.declared.houses.scope.VisitName.{VisitName}
-use Rattle.solo_core.specs.declared.houses.scope.VisitName.TheVariants.{House}
+use Rattle.solo_core.specs.Common.{Candidates, IsGrid, Solo, solo_n, RuleSystem, has_place, house_of, NamedHouse, solo_cells, houses_of, lies_in_house, places_of, IsSoloSolution}
+use Rattle.solo_core.specs.declared.houses.visit.VisitName.{VisitName}
+use Rattle.solo_core.specs.declared.houses.visit.VisitName.TheVariants.{House}
 use Rattle.solo_core.specs.RuleSets.{filled_houses, crossings_of, visited_house}
 use Rattle.solo_core.specs.Scopes.{scopes_of}
 
@@ -20,7 +20,7 @@ StrikesAsMuch less more = (h : ℕ) (board : Candidates) (place value : ℕ) →
 -- the house's list has exactly the places that lie in the house
 abbrev pub ListsItsPlaces : Solo → NamedHouse → Type 0
 ListsItsPlaces p house = (place : ℕ) → place < solo_cells p
-    → (IsTrue (has_place (places_of p house) place)) ↔ (IsTrue (lies_in p house place))
+    → (IsTrue (has_place (places_of p house) place)) ↔ (IsTrue (lies_in_house p house place))
 
 -- the first scopes are the houses, and each scope is visited as its number says
 abbrev pub HousesComeFirst : Solo → Type 0

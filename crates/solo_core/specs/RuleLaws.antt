@@ -1,13 +1,13 @@
 -- The laws that every rule set keeps to, for the rule sets of Solo.
 use Rattle.std.proofs.Common.{◌≡◌, ℕ, ◌*◌, ◌<◌, Bool, true, false, List, ◌++◌, map, length, get_or, slice_index, sym, ◌∙◌, arith, All}
-use Rattle.solo_core.specs.Common.{range_with_len, and_parts, ltb-true, true≢false, nat_tests, mul-le, get_or-map, length-map, All-append, All-map, IsInside, IsWithin, single, IsGrid, Solo, IsSolo, solo_n, IsLawful, Decision, IsMonotone, House, IsSettled, Keeps, IsSound, IsSetting, NamedHouse, Row, Column, Block, solo_cells, houses_of, IsHouseOf, places_of, numbers_of, is_solo_solution, no_repeat}
+use Rattle.solo_core.specs.Common.{range_with_len, and_parts, ltb-true, true≢false, nat_tests, mul-le, get_or-map, length-map, All-append, All-map, IsInside, IsWithin, single, IsGrid, Solo, IsSolo, solo_n, IsLawful, Decision, IsMonotone, House, IsSettled, Keeps, IsSound, IsSetting, NamedHouse, Row, Column, Block, solo_cells, houses_of, IsSoloHouse, places_of, numbers_of, is_solo_solution, no_repeat}
 use Rattle.grid_core.proofs.GridLemmas.{single-is}
 use Rattle.engine_core.specs.HouseSetsLaws.{by_fillings-monotone}
 use Rattle.engine_core.specs.HouseList.{AreScopesOf, all_places, listed_visits}
 use Rattle.engine_core.specs.ListedLaws.{listed-scopes, visits-listed}
 use Rattle.engine_core.specs.HouseRulesLaws.{by_houses-lawful, bound_enough, by_fillings-settles, by_fillings-keeps}
 use Rattle.solo_core.specs.RuleSets.{start, house_by, visited_house, deciding, crossings_of, setting_of, filled_houses, single_houses, crossing_of, rules_of, singles_rules, houses_rules, crossings_rules}
-use Rattle.solo_core.specs.declared.houses.scope.VisitName.{VisitName}
+use Rattle.solo_core.specs.declared.houses.visit.VisitName.{VisitName}
 use Rattle.solo_core.specs.Scopes.{row_scope, column_scope, crossing_scopes}
 use Rattle.solo_core.specs.HouseLaws.{lists_house, listed-within, listed-different, some_numbers, each_value, all_houses, row_in, column_in}
 use Rattle.solo_core.specs.SolutionLaws.{rule_from_test, house_of_solution}
@@ -56,7 +56,7 @@ module _ (p : Solo) (ok : IsSolo p) where
       (λ _. bound_enough (setting_of settled p houses) houses (omega arith)) (λ e. absurd (true≢false e))
 
   -- ---- houses that decide alike
-  holds_each : {g : List ℕ} → IsGrid (solo_cells p) (solo_n p) g → is_solo_solution p g ≡ true → (house : NamedHouse) → IsHouseOf p house
+  holds_each : {g : List ℕ} → IsGrid (solo_cells p) (solo_n p) g → is_solo_solution p g ≡ true → (house : NamedHouse) → IsSoloHouse p house
       → HoldsEach (solo_n p) g (places_of p house)
   holds_each {g} grid on house is = record {
     long = (lists_house ok house is).len;
@@ -71,7 +71,7 @@ module _ (p : Solo) (ok : IsSolo p) where
   alike_sound settled all decides monotone keeps settles = All-map (IsSound (setting_of settled p all)) (house_by decides p) (houses_of p) (λ k d lt.
       each (get_or (houses_of p) k d) (all_houses p k d lt))
     where
-      each : (house : NamedHouse) → IsHouseOf p house → IsSound (setting_of settled p all) (house_by decides p house)
+      each : (house : NamedHouse) → IsSoloHouse p house → IsSound (setting_of settled p all) (house_by decides p house)
       each house is = record {
         within = listed-within (lists_house ok house is);
         different = listed-different (lists_house ok house is);
@@ -86,7 +86,7 @@ module _ (p : Solo) (ok : IsSolo p) where
 
   -- ---- crossings of a block and a line
   crossing_is_sound : (all : List House) {b : ℕ} (line : NamedHouse) → b < solo_n p
-      → IsHouseOf p line → IsSound (setting_of true p all) (crossing_of p b line)
+      → IsSoloHouse p line → IsSound (setting_of true p all) (crossing_of p b line)
   crossing_is_sound all {b} line b_in is =
       let block = lists_house ok (Block b) b_in in
       let other = lists_house ok line is in

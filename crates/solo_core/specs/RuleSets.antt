@@ -2,8 +2,8 @@
 -- same houses, and crossings have further ones.
 use Rattle.std.specs.Prelude.{◌≡◌, ℕ, ◌<◌, ◌+◌, Bool, true, false, ◌&&◌, ◌||◌, ◌==◌, nat_lt, List, ◌++◌, map, slice_index, sum_by}
 use Rattle.solo_core.specs.Common.{Candidates, Solo, solo_n, RuleSystem, strikes_by_fillings, Decision, has_bit, House, Setting, by_houses, house_of, visits_of, NamedHouse, Block, solo_cells, houses_of, places_of, no_repeat, is_solo_solution}
-use Rattle.solo_core.specs.declared.houses.scope.VisitName.{VisitName}
-use Rattle.solo_core.specs.declared.houses.scope.VisitName.TheVariants as scope
+use Rattle.solo_core.specs.declared.houses.visit.VisitName.{VisitName}
+use Rattle.solo_core.specs.declared.houses.visit.VisitName.TheVariants as scope
 use Rattle.solo_core.specs.Crossing.{crossing, outside, is_shared}
 use Rattle.solo_core.specs.Scopes.{crossing_scopes}
 use Rattle.solo_core.specs.Singles.{strikes_by_singles}

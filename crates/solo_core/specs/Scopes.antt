@@ -1,8 +1,8 @@
 -- What a rule set of Solo may visit: the houses, and then crossings of a block with a row or a column that it meets.
 use Rattle.std.specs.Prelude.{◌≡◌, ℕ, ◌+◌, ◌*◌, ◌/◌, ◌%◌, List, ◌++◌, map, slice_index_or}
 use Rattle.solo_core.specs.Common.{range_with_len, Solo, solo_n, NamedHouse, Row, Column, houses_of}
-use Rattle.solo_core.specs.declared.houses.scope.VisitName.{VisitName}
-use Rattle.solo_core.specs.declared.houses.scope.VisitName.TheVariants.{House, Crossing}
+use Rattle.solo_core.specs.declared.houses.visit.VisitName.{VisitName}
+use Rattle.solo_core.specs.declared.houses.visit.VisitName.TheVariants.{House, Crossing}
 
 -- by number: the crossings of each block with each of the c rows that it meets, and with each of the r columns
 abbrev pub row_scope : Solo → ℕ → VisitName

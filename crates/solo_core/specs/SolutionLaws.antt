@@ -1,7 +1,7 @@
 -- Laws of lists without repeat, and of solutions: the test of a grid, house by house, is the rule.
 use Rattle.std.proofs.lemmas.Grind.{common_steps}
 use Rattle.std.proofs.Common.{Bool, Contains, List, [], ap, arith, eqb, false, get_or, inl, inr, length, map, not, refl, slice_index, suc, sym, true, true≢false, zero, ℕ, ◌&&◌, ◌+◌, ◌<◌, ◌∙◌, ◌∷◌, ◌≡◌, ◌≤◌}
-use Rattle.solo_core.specs.Common.{AreDifferent, IsGrid, IsHouseOf, IsSolo, IsSoloSolution, NamedHouse, Solo, all_below, all_below-at, all_below-from, and_from, and_parts, any_below, any_below-none, any_below-some, cases_Bool, cases_order, eq-eqb, eqb-true, get_or-map, get_or-map-range_with_len, get_or_default, given_stands, houses_of, is_solo_solution, length-map, length-map-range_with_len, list_all, list_any, nat_tests, no_repeat, not-true, numbers_of, range_with_len, solo_cells, solo_n}
+use Rattle.solo_core.specs.Common.{AreDifferent, IsGrid, IsSoloHouse, IsSolo, IsSoloSolution, NamedHouse, Solo, all_below, all_below-at, all_below-from, and_from, and_parts, any_below, any_below-none, any_below-some, cases_Bool, cases_order, eq-eqb, eqb-true, get_or-map, get_or-map-range_with_len, get_or_default, given_stands, houses_of, is_solo_solution, length-map, length-map-range_with_len, list_all, list_any, nat_tests, no_repeat, not-true, numbers_of, range_with_len, solo_cells, solo_n}
 use Rattle.grid_core.proofs.PairingLemmas.{apart-le, contains_from_member, member_from_contains}
 use Rattle.engine_core.specs.PlaceLaws.{each_test, test_each}
 use Rattle.solo_core.specs.HouseLaws.{Lists, all_houses, each_house, lists_house}
@@ -126,7 +126,7 @@ rule_from_test p ok g grid on =
 
 -- no house of a solution repeats a number
 pub house_of_solution : (p : Solo) → IsSolo p → (g : List ℕ) → IsSoloSolution p g
-    → (house : NamedHouse) → IsHouseOf p house → no_repeat (numbers_of p g house) ≡ true
+    → (house : NamedHouse) → IsSoloHouse p house → no_repeat (numbers_of p g house) ≡ true
 house_of_solution p ok g s house is = no_repeat_in (lists_house ok house is) g (s.different house is)
 
 pub test_from_rule : (p : Solo) → IsSolo p → (g : List ℕ) → IsSoloSolution p g → is_solo_solution p g ≡ true

@@ -6,7 +6,7 @@ use Rattle.grid_core.specs.Candidates.{all_below}
 use Rattle.grid_core.specs.Grids.{IsGrid}
 use Rattle.gameid_core.specs.Puzzles.{Solo, solo_n}
 use Rattle.solo_core.specs.declared.houses.house.NamedHouse.{NamedHouse}
-use Rattle.solo_core.specs.Houses.{IsHouseOf, houses_of, lies_in, no_repeat, places_of, solo_cells}
+use Rattle.solo_core.specs.Houses.{IsSoloHouse, houses_of, lies_in_house, no_repeat, places_of, solo_cells}
 
 pub record IsSoloSolution (p : Solo) (g : List ℕ) : Type 0 where
   pub grid : IsGrid (solo_cells p) (solo_n p) g
@@ -14,9 +14,9 @@ pub record IsSoloSolution (p : Solo) (g : List ℕ) : Type 0 where
   pub givens : (place : ℕ) → place < solo_cells p → 1 ≤ slice_index p.givens place
       → slice_index g place + 1 ≡ slice_index p.givens place
   -- different places of one house hold different numbers
-  pub different : (house : NamedHouse) → IsHouseOf p house
+  pub different : (house : NamedHouse) → IsSoloHouse p house
       → (j k : ℕ) → j < solo_cells p → k < solo_cells p → (j ≡ k → ⊥)
-      → lies_in p house j ≡ true → lies_in p house k ≡ true → slice_index g j ≡ slice_index g k → ⊥
+      → lies_in_house p house j ≡ true → lies_in_house p house k ≡ true → slice_index g j ≡ slice_index g k → ⊥
 
 -- what stands and differs, as a test of a grid of the puzzle, house by house
 abbrev pub given_stands : Solo → List ℕ → ℕ → Bool

@@ -2,7 +2,7 @@
 #![tactic(auto, using(crate::proofs::LawSets::check_laws))]
 
 ghost use Rattle.std.specs.Prelude.{◌↔◌, ◌≡◌, None};
-ghost use Rattle.solo_core.specs.Common.{IsGrid, IsSolo, IsSoloSolution, solo_n, solo_cells, IsHouseOf, numbers_of, no_repeat};
+ghost use Rattle.solo_core.specs.Common.{IsGrid, IsSolo, IsSoloSolution, solo_n, solo_cells, IsSoloHouse, numbers_of, no_repeat};
 ghost use Rattle.solo_core.specs.Faults.{IsSoloFault, fault_of as fault_of_house};
 
 use crate::fault::SoloFault;
@@ -51,7 +51,7 @@ fn first_fault(puzzle: &SoloPuzzle, grid: &Grid) -> Option<SoloFault>
 /// Whether the house holds no number twice.
 fn holds_each_once(puzzle: &SoloPuzzle, grid: &Grid, house: NamedHouse) -> bool
     requires fits { IsGrid (solo_cells puzzle.now) (solo_n puzzle.now) grid.now }
-    requires house_of { IsHouseOf puzzle.now house }
+    requires house_of { IsSoloHouse puzzle.now house }
     ensures { result ≡ no_repeat (numbers_of puzzle.now grid.now house) }
 {
     let mut seen = 0;

@@ -3,6 +3,6 @@
 pub(crate) mod crossings;
 pub(crate) mod house;
 pub(crate) mod lists;
+pub(crate) mod numbers;
 pub(crate) mod places;
-pub(crate) mod scope;
-pub(crate) mod scopes;
+pub(crate) mod visit;

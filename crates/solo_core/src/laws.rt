@@ -2,7 +2,7 @@
 #![tactic(auto, using(crate::proofs::LawSets::laws_laws))]
 
 ghost use Rattle.std.specs.Prelude.{◌≡◌, ◌+◌, ◌*◌, length, if◌then◌else◌};
-ghost use Rattle.solo_core.specs.Common.{Solo, IsSolo, solo_n, IsLawful, NamedHouse, houses_of, IsHouseOf};
+ghost use Rattle.solo_core.specs.Common.{Solo, IsSolo, solo_n, IsLawful, NamedHouse, houses_of, IsSoloHouse};
 ghost use Rattle.solo_core.specs.Meanings.{AcceptsSoloSolutions, StrikesAsMuch, ListsItsPlaces, HousesComeFirst, AreNamedByScopes, house_visits, all_visits};
 ghost use Rattle.solo_core.specs.RuleSets.{houses_rules, singles_rules, crossings_rules};
 ghost use Rattle.solo_core.specs.Scopes.{scopes_of};
@@ -52,7 +52,7 @@ pub fn bounds_are()
 /// the rules speak.
 pub fn houses_are_lines_and_blocks()
     ensures { (p : Solo) → IsSolo p
-        → (h : NamedHouse) → IsHouseOf p h → ListsItsPlaces p h }
+        → (h : NamedHouse) → IsSoloHouse p h → ListsItsPlaces p h }
 {}
 
 /// What each number names: the rule sets of singles and of houses visit the puzzle's houses, and that of crossings all

@@ -26,7 +26,7 @@ use std::alloc::{AllocError, Global};
 pub type SoloSingles = HouseRules<Singles>;
 
 /// The rules whose houses strike what no filling without repeat allows.
-pub type SoloHouses = HouseRules<Fillings>;
+pub type SoloHouses = HouseRules<SoloFillings>;
 
 /// The rules of houses, and of their crossings.
 pub type SoloCrossings = HouseRules<Crossings>;
@@ -41,7 +41,7 @@ pub struct Singles {
 
 /// Strikes what no filling of the house without repeat allows.
 #[derive(Drop)]
-pub struct Fillings {
+pub struct SoloFillings {
     puzzle: SoloPuzzle,
     ghost is_solo: { IsSolo puzzle } by { Prim.hlevel props },
 }
@@ -116,7 +116,7 @@ impl RuleSet for Singles {
     }
 }
 
-impl RuleSet for Fillings {
+impl RuleSet for SoloFillings {
     type Puzzle = SoloPuzzle;
 
     type Scratch = Pairing;
@@ -150,12 +150,12 @@ impl RuleSet for Fillings {
     ghost serves_smaller = { λ pairing need had fits served. let same = fits.same_values in
         Prim.omega arith };
 
-    fn parts(alloc: Global, puzzle: &SoloPuzzle) -> Result<RuleParts<Fillings>, AllocError> {
+    fn parts(alloc: Global, puzzle: &SoloPuzzle) -> Result<RuleParts<SoloFillings>, AllocError> {
         Ok(RuleParts {
             houses: list_houses(alloc, puzzle, 0)?,
             cells: cells(puzzle),
             values: puzzle.n(),
-            set: Fillings {
+            set: SoloFillings {
                 puzzle: puzzle.copy(alloc)?,
             },
         })

@@ -3,14 +3,14 @@
 
 ghost use Rattle.std.specs.Prelude.{◌≡◌, ◌<◌, ◌≤◌, [], OnOk, length};
 ghost use Rattle.engine_core.specs.HouseList.{FitsLists, FitsPlaces, all_places};
-ghost use Rattle.solo_core.specs.Common.{solo_n, IsHouseOf};
+ghost use Rattle.solo_core.specs.Common.{solo_n, IsSoloHouse};
 ghost use Rattle.solo_core.specs.RuleSets.{crossing_of, crossings_of, rest_of_line};
 ghost use Rattle.solo_core.specs.Work.{HasAdded, HasBegun, HasClosed};
 
 use crate::houses::house::NamedHouse;
 use crate::houses::lists::push_block;
+use crate::houses::numbers::crossing_at;
 use crate::houses::places::{lies, place};
-use crate::houses::scopes::crossing_at;
 use engine_core::HouseList;
 use gameid_core::SoloPuzzle;
 use std::alloc::AllocError;
@@ -31,7 +31,7 @@ fn push_rest(
     line: NamedHouse,
 ) -> Result<(), AllocError>
     requires block_in { block < solo_n puzzle.now }
-    requires line_of { IsHouseOf puzzle.now line }
+    requires line_of { IsSoloHouse puzzle.now line }
     requires fits { FitsPlaces list.old (solo_n puzzle.now) }
     ensures { OnOk result (HasBegun (rest_of_line puzzle.now block line) list.old list.new) }
 {
@@ -53,7 +53,7 @@ fn push_crossing(
     line: NamedHouse,
 ) -> Result<(), AllocError>
     requires block_in { block < solo_n puzzle.now }
-    requires line_of { IsHouseOf puzzle.now line }
+    requires line_of { IsSoloHouse puzzle.now line }
     requires closed { list.old.begun ≡ [] }
     requires fits { FitsLists list.old 1 }
     ensures { OnOk result (HasClosed (crossing_of puzzle.now block line).places list.old list.new) }

@@ -2,7 +2,7 @@
 #![tactic(auto, using(crate::proofs::HouseLemmas::house_laws))]
 
 ghost use Rattle.std.specs.Prelude.{◌≡◌, ◌<◌, ◌≤◌, length, slice_index, slice_index_or};
-ghost use Rattle.solo_core.specs.Common.{IsSolo, solo_n, NamedHouse, solo_cells, houses_of, IsHouseOf, lies_in, places_of};
+ghost use Rattle.solo_core.specs.Common.{IsSolo, solo_n, NamedHouse, solo_cells, houses_of, IsSoloHouse, lies_in_house, places_of};
 
 use crate::houses::house::NamedHouse;
 use gameid_core::SoloPuzzle;
@@ -30,7 +30,7 @@ pub(crate) fn houses(puzzle: &SoloPuzzle) -> usize
 /// The house with the number.
 pub(crate) fn house(puzzle: &SoloPuzzle, number: usize) -> NamedHouse
     requires { number < length (houses_of puzzle.now) }
-    ensures house_of { IsHouseOf puzzle.now result }
+    ensures house_of { IsSoloHouse puzzle.now result }
     ensures at { (other : NamedHouse)
         → result ≡ slice_index_or (houses_of puzzle.now) number other }
 {
@@ -49,7 +49,7 @@ pub(crate) fn house(puzzle: &SoloPuzzle, number: usize) -> NamedHouse
 
 /// The place of the house's `k`-th cell.
 pub(crate) fn place(puzzle: &SoloPuzzle, house: NamedHouse, k: usize) -> usize
-    requires house_of { IsHouseOf puzzle.now house }
+    requires house_of { IsSoloHouse puzzle.now house }
     requires k_in { k < solo_n puzzle.now }
     ensures place { result ≡ slice_index (places_of puzzle.now house) k }
     ensures within { result < solo_cells puzzle.now }
@@ -66,7 +66,7 @@ pub(crate) fn place(puzzle: &SoloPuzzle, house: NamedHouse, k: usize) -> usize
 /// Whether the place lies in the house.
 pub(crate) fn lies(puzzle: &SoloPuzzle, house: NamedHouse, place: usize) -> bool
     requires { place < solo_cells puzzle.now }
-    ensures { result ≡ lies_in puzzle.now house place }
+    ensures { result ≡ lies_in_house puzzle.now house place }
 {
     let n = usize::from(puzzle.n());
     let c = usize::from(puzzle.c());

@@ -3,13 +3,13 @@
 
 ghost use Rattle.std.specs.Prelude.{◌≡◌, ℕ, ◌<◌, ◌≤◌, ◌&&◌, ◌||◌, not, length};
 ghost use Rattle.grid_core.specs.Candidates.{max_values};
-ghost use Rattle.solo_core.specs.Common.{has_bit as is_set, solo_n, IsDecided, IsHouseOf};
+ghost use Rattle.solo_core.specs.Common.{has_bit as is_set, solo_n, IsDecided, IsSoloHouse};
 ghost use Rattle.solo_core.specs.Crossing.{part_has, in_block_alone, in_line_alone, strikes_by_parts};
 ghost use Rattle.solo_core.specs.RuleSets.{crossing_decides, crossings_of, AreShared};
 
 use crate::houses::house::NamedHouse;
+use crate::houses::numbers::crossing_at;
 use crate::houses::places::{lies, place};
-use crate::houses::scopes::crossing_at;
 use crate::visits::bits::{with_bit_if, with_more_if};
 use engine_core::has_bit;
 use gameid_core::SoloPuzzle;
@@ -32,7 +32,7 @@ pub(crate) fn keep_crossed(puzzle: &SoloPuzzle, number: usize, sets: &[u32], kep
 /// Which of the block's cells are the line's too: bit `k` says it of the `k`-th.
 fn shared(puzzle: &SoloPuzzle, block: usize, line: NamedHouse) -> u32
     requires block_in { block < solo_n puzzle.now }
-    requires line_of { IsHouseOf puzzle.now line }
+    requires line_of { IsSoloHouse puzzle.now line }
     ensures { AreShared puzzle.now block line result }
 {
     let mut bits = 0;

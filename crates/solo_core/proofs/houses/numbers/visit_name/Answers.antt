@@ -1,7 +1,7 @@
 use Rattle.std.proofs.Common.{◌∙◌, sym, ap, arith}
-use Rattle.solo_core.specs.declared.houses.scope.VisitName.TheVariants as scope
+use Rattle.solo_core.specs.declared.houses.visit.VisitName.TheVariants as scope
 use Rattle.solo_core.proofs.HouseLemmas.{house-named}
-use Rattle.solo_core.proofs.houses.scopes.visit_name.Goals as goal
+use Rattle.solo_core.proofs.houses.numbers.visit_name.Goals as goal
 
 pub returns-then-number-count : goal.returns-then-number-count
 returns-then-number-count c =

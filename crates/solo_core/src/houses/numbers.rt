@@ -1,14 +1,14 @@
 //! What the numbers of a rule set's houses name.
-#![tactic(auto, using(crate::proofs::LawSets::scopes_laws))]
+#![tactic(auto, using(crate::proofs::LawSets::numbers_laws))]
 
 ghost use Rattle.std.specs.Prelude.{◌≡◌, ◌<◌, length, slice_index_or};
-ghost use Rattle.solo_core.specs.Common.{solo_n, IsHouseOf};
-ghost use Rattle.solo_core.specs.declared.houses.scope.VisitName.{VisitName};
+ghost use Rattle.solo_core.specs.Common.{solo_n, IsSoloHouse};
+ghost use Rattle.solo_core.specs.declared.houses.visit.VisitName.{VisitName};
 ghost use Rattle.solo_core.specs.Scopes.{scopes_of, crossing_scopes, IsCrossingAt};
 
 use crate::houses::house::NamedHouse;
 use crate::houses::places::{house, houses};
-use crate::houses::scope::VisitName;
+use crate::houses::visit::VisitName;
 use gameid_core::SoloPuzzle;
 
 /// What `SoloCrossings` visits under the number: the rows from the top, the columns from the left, the blocks, in Solo X
@@ -31,7 +31,7 @@ pub(crate) fn crossing_at(puzzle: &SoloPuzzle, number: usize) -> (usize, NamedHo
     requires { number < length (crossing_scopes puzzle.now) }
     ensures scope { IsCrossingAt puzzle.now number result.0 result.1 }
     ensures block_in { result.0 < solo_n puzzle.now }
-    ensures line_of { IsHouseOf puzzle.now result.1 }
+    ensures line_of { IsSoloHouse puzzle.now result.1 }
 {
     let c = usize::from(puzzle.c());
     let r = usize::from(puzzle.r());

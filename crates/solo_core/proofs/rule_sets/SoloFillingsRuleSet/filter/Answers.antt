@@ -1,6 +1,6 @@
 use Rattle.solo_core.proofs.Common.{fillings_sound, true}
 use Rattle.solo_core.proofs.HouseLemmas.{kept-deciding}
-use Rattle.solo_core.proofs.rule_sets.FillingsRuleSet.filter.Goals as goal
+use Rattle.solo_core.proofs.rule_sets.SoloFillingsRuleSet.filter.Goals as goal
 
 pub returns-clause-kept : goal.returns-clause-kept
 returns-clause-kept c = λ K are.
