@@ -1,6 +1,5 @@
--- Runs: lines that are kept, answers that are delivered, and texts put in pieces.
-use Rattle.commands.proofs.Common.{Answer, Begins, BeginsAnswer, BeginsIfAny, Bool, Delivers, Err, HasAnswers, IfErr, IfOk, IfSome, IsInput, IsInputLine, KeptOrPut, List, None, Ok, Option, PutBegun, PutInPieces, PutUpTo, Ran, RanIfAny, Reply, Result, Some, TakesPieces, Text, Wrote, [], add-one, answer_in, ap, append-nil, append_assoc, arith, begins_with_line_end, cases_lt, common_steps, drop, each_below, false, if◌then◌else◌, inl, inr, joined, length, length-take-le, max_id, ne_eqb, refl, status_in, status_of, strip_carriage_return, subst, suc, sym, take, take-append-drop, take_all, true, true≢false, without_returns, zero, ℕ, ◌&&◌, ◌++◌, ◌+◌, ◌-◌, ◌<◌, ◌==◌, ◌∙◌, ◌∷◌, ◌≡◌, ◌≤◌, ◌⊎◌}
-use Rattle.std.specs.Borrow.{Bor}
+-- Runs: texts without returns, answers that are delivered, and texts put in pieces.
+use Rattle.commands.proofs.Common.{Answer, Begins, BeginsAnswer, BeginsIfAny, Bool, Delivers, Err, HasAnswers, IfErr, IfOk, IsInput, KeptOrPut, List, Ok, PutBegun, PutInPieces, PutUpTo, Ran, RanIfAny, Reply, Result, TakesPieces, Text, Wrote, [], add-one, answer_in, ap, append-nil, append_assoc, arith, begins_with_line_end, cases_lt, common_steps, drop, each_below, false, if◌then◌else◌, inl, inr, joined, length, refl, status_in, status_of, subst, suc, sym, take, take-append-drop, true, true≢false, without_returns, zero, ℕ, ◌&&◌, ◌++◌, ◌+◌, ◌-◌, ◌<◌, ◌==◌, ◌∙◌, ◌∷◌, ◌≡◌, ◌≤◌, ◌⊎◌}
 use Rattle.std.specs.Result.{IsErr, IsErrAnd}
 use Rattle.commands.specs.declared.answers.status.Status.{Status}
 use Rattle.commands.specs.declared.answers.status.Stop.{Stop}
@@ -8,42 +7,9 @@ use Rattle.commands.specs.declared.answers.status.Stop.TheVariants.{Broken, Memo
 use Rattle.commands.specs.declared.ends.Sink as sinks
 use Rattle.commands.specs.declared.ends.Source as sources
 
--- The bytes of a line that are kept, and a text that is copied without its returns: what is copied, and the rest without
--- its returns, is always the whole without them.
+-- A text that is copied without its returns: what is copied, and the rest without its returns, is always the whole without
+-- them.
 
--- ---- a line of which so many bytes at most are kept
-module _ (most b : ℕ) {kept : List ℕ} (piece : List ℕ) (holds : kept ≡ take most piece) where
-  -- a byte that is kept, and one that is not
-  pub holds_kept : length kept < most → kept ++ b ∷ [] ≡ take most (piece ++ b ∷ [])
-  holds_kept room = grind (arith, common_steps)
-
-  pub holds_more : most ≤ length kept → kept ≡ take most (piece ++ b ∷ [])
-  holds_more full = grind (arith, common_steps)
-
-pub line_empty : {most : ℕ} → 0 < most → {kept : List ℕ} (piece : List ℕ) → kept ≡ take most piece → (length kept == 0) ≡ (length piece == 0)
-line_empty {most} some {kept} piece holds = grind (arith, common_steps, cases_lt, length-take-le, ne_eqb)
-
-pub strip_length : (l : List ℕ) → length l ≤ length (strip_carriage_return l) + 1
-strip_length l = grind (arith, common_steps, common_steps)
-
--- what is told of such a line at its end, as it stands or without a return
-pub line_told : (f : List ℕ → List ℕ) → ((l : List ℕ) → length l ≤ length (f l) + 1)
-    → (line : Option (Bor (List ℕ))) {kept : List ℕ} (piece : List ℕ)
-    → kept ≡ take (max_id + 2) piece → IsInputLine line (f kept) → IfSome line (λ l. length l.now ≤ max_id) → IsInputLine line (f piece)
-line_told f less line {kept} piece holds told within = elim (cases_lt _ _) [
-  | inl long ↦ by line long told within (omega (arith, less kept, ap length holds, length-take-le (max_id + 2) piece (omega arith)))
-  | inr all ↦ subst (λ l. IsInputLine line (f l)) (holds ∙ take_all (max_id + 2) piece all) told
-]
-  where
-    by : (line : Option (Bor (List ℕ))) → max_id + 2 < length piece → IsInputLine line (f kept)
-        → IfSome line (λ l. length l.now ≤ max_id) → max_id < length (f kept) → IsInputLine line (f piece)
-    by None long told within over = omega (arith, less piece)
-    by (Some l) long told within over =
-        let few = within in
-        let same = told in
-        absurd (omega (arith, ap length same))
-
--- ---- a text without its returns
 choice : {b : Bool} (byte : ℕ) (more : Text) → (byte == 13) && begins_with_line_end more ≡ b
     → without_returns (byte ∷ more) ≡ (if b then without_returns more else byte ∷ without_returns more)
 unfolding without_returns

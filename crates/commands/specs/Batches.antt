@@ -1,32 +1,33 @@
 -- What is kept of a line that is being read, and a batch, between two bytes of its input. No
 -- contract of a run uses these words.
 use Rattle.std.specs.Borrow.{Bor}
-use Rattle.std.specs.Prelude.{◌≡◌, ◌==◌, ◌<◌, ◌+◌, ℕ, List, Option, MatchOption, length, take, ◌++◌, false, Result}
+use Rattle.std.specs.Prelude.{◌≡◌, ◌==◌, ◌<◌, ◌+◌, ℕ, Bool, List, Option, MatchOption, length, ◌++◌, true, false, Result}
 use Rattle.std.specs.List.{All}
-use Rattle.std.specs.Str.Lines.{lines}
+use Rattle.std.specs.Str.Lines.{lines, strip_carriage_return}
 use Rattle.gameid_core.specs.Head.{max_id}
-use Rattle.commands.specs.declared.batch.lines.InputLine.{InputLine}
 use Rattle.commands.specs.Answers.{Answer, Text, answer_with, code_of}
 use Rattle.commands.specs.Each.{AllowsEach, Answered, BeginsLines, Begun, HasAnswers, Stopped, both}
 use Rattle.commands.specs.Games.{game_of}
 use Rattle.commands.specs.Runs.{Ran}
 use Rattle.commands.specs.Stops.{status_in}
-use Rattle.commands.specs.Texts.{Given}
+use Rattle.commands.specs.Texts.{Given, IsKeptText}
 use Rattle.commands.specs.Allowed.{AllowsSolve}
 use Rattle.commands.specs.declared.answers.status.Status.{Status}
 use Rattle.commands.specs.declared.answers.status.Stop.{Stop}
 use Rattle.commands.specs.declared.batch.Batch.{Batch}
 use Rattle.commands.specs.declared.ends.Sink as sinks
 use Rattle.commands.specs.declared.ends.Source as sources
+use Rattle.commands.specs.declared.ends.text.ReadText.{ReadText}
 use Rattle.commands.specs.declared.solve.Task.{Task}
 
--- of these bytes, all that came since the last line, so many are kept
-abbrev pub HoldsUpTo : ℕ → InputLine → List ℕ → Type 0
-HoldsUpTo most line piece = line.kept.items ≡ take most piece
+-- of a line, all that came since the last one, these bytes are kept, or they are too many
+abbrev pub Holds : ReadText → Text → Type 0
+Holds line piece = IsKeptText (max_id + 1) line piece
 
--- two more than the bytes of an ID
-abbrev pub Holds : InputLine → List ℕ → Type 0
-Holds line piece = HoldsUpTo (max_id + 2) line piece
+-- the line that this is, with a newline behind it or with the end of the input
+abbrev pub line_of : Bool → Text → Text
+line_of true piece = strip_carriage_return piece
+line_of false piece = piece
 
 -- the line is there with these bytes, or they are too many for an ID
 abbrev pub IsInputLine : Option (Bor (List ℕ)) → List ℕ → Type 0

@@ -7,12 +7,10 @@ ghost use Rattle.commands.specs.Runs.{AreNew, call_limit};
 ghost use Rattle.commands.specs.Stops.{LeavesEnds, StopsWith, is_broken};
 ghost use Rattle.commands.specs.declared.answers.status.Status.TheVariants.{Fine};
 
-pub mod lines;
-
 use crate::answers::reply::{Reply, id_refused};
 use crate::answers::status::{RunResult, Status, Stop};
-use crate::batch::lines::InputLine;
 use crate::ends::output::put_all;
+use crate::ends::text::ReadText;
 use crate::ends::{CALL_LIMIT, CHUNK, Sink, Source};
 use crate::games::Stores;
 use crate::solve::Task;
@@ -24,7 +22,7 @@ use std::mem::replace;
 /// are still to be put, and the greatest status so far.
 #[derive(Drop)]
 pub struct Batch {
-    line: InputLine,
+    line: ReadText,
     stores: Stores,
     text: String,
     answers: Vec<u8>,
@@ -56,7 +54,7 @@ impl Batch {
         ensures status { result.status ≡ Fine }
     {
         Batch {
-            line: InputLine::new(alloc),
+            line: ReadText::new(alloc),
             stores: Stores::default(),
             text: String::new(alloc),
             answers: Vec::new(alloc),
@@ -100,7 +98,7 @@ impl Batch {
         ensures stays { OnErr result (unput self.new ≡ unput self.old) }
     {
         let text = replace(&mut self.text, String::new(alloc));
-        let line = self.line.before_newline();
+        let line = self.line.line(true);
         let reply = line_reply(alloc, &mut self.stores, task, line, text)?;
         self.add_reply(&reply)?;
         self.text = reply.text;
@@ -163,7 +161,7 @@ impl Batch {
             return Ok(());
         }
         let text = replace(&mut self.text, String::new(alloc));
-        let line = self.line.before_end();
+        let line = self.line.line(false);
         let reply = line_reply(alloc, &mut self.stores, task, line, text)?;
         self.add_reply(&reply)?;
         Ok(())

@@ -7,5 +7,5 @@ returns-then-is_empty c = λ seen written b. gathers_none b c.if-is_empty.ensure
 pub returns : goal.returns
 returns c = λ seen written b.
     gathers_last c.add_reply.new.self _ b c.if-is_empty.ensures
-    (λ piece h. c.in_ok-reply.ensures piece (c.before_end-line.ensures piece h))
+    (λ piece h. c.in_ok-reply.ensures piece (c.line-line.ensures piece h))
     c.in_ok-add_reply.ensures.added c.in_ok-add_reply.ensures.status
