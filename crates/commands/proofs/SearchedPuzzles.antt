@@ -6,7 +6,9 @@ use Rattle.rand_chacha.specs.Block.{block_word}
 use Rattle.rand_chacha.specs.ChaCha.{ChaCha, next_word}
 use Rattle.commands.specs.Makings.{seed_stream}
 use Rattle.solo_core.specs.RuleLaws.{crossings_lawful, singles_lawful}
+use Rattle.engine_core.specs.Counts.{IsClosedIn, IsTurns, boards_met, boards_of}
 use Rattle.engine_core.specs.HouseRules.{House}
+unfoldable use Rattle.engine_core.specs.Verdict.{tried}
 use Rattle.fields_core.proofs.LightRuleLemmas.{light-lawful}
 use Rattle.fields_core.proofs.LightRuleLemmas as light
 use Rattle.fields_core.proofs.TentCounting.{tent-lawful}
@@ -118,6 +120,20 @@ module _ {rules : RuleSystem} {solves : List ℕ → Type 0} (searched : Searche
   pub found_with_enough : (one : HasOneSolution solves) {budget : ℕ}
       → trials_in (walk rules 0 rules.start) ≤ budget → verdict_of rules budget ≡ OneSolution one.0
   found_with_enough one at_most = grind (arith, common_steps, never_out, verdict_right)
+
+-- a search without a trial tries nothing
+untried : (found : Option (List ℕ)) (marks : List Mark) → tried 0 found marks ≡ []
+unfolding tried
+untried found [] = refl
+untried None (Found g ∷ marks) = untried (Some g) marks
+untried (Some first) (Found g ∷ marks) = refl
+untried found (Trial depth board ∷ marks) = refl
+
+-- so its turns are those of one closing of the start board
+pub closed_at_once : (p : RuleSystem) (turns : ℕ) → IsTurns p (boards_met p 0) turns → IsClosedIn p p.start turns
+closed_at_once p turns made =
+    let one : IsTurns p (p.start ∷ []) turns = subst (λ l. IsTurns p (p.start ∷ boards_of l) turns) (untried None (walk p 0 p.start)) made in
+    subst (IsClosedIn p p.start) (omega (arith, one.3, one.4)) one.2
 
 -- a search has one answer
 pub solved_once : {P : Type 0} (play : PuzzleFacts P) (p : P) {budget : ℕ}

@@ -1,6 +1,8 @@
 -- How a grade is said, and how a trace is put in pieces. No contract of a run uses these words: they serve the steps that
 -- put it.
 use Rattle.std.specs.Prelude.{◌≡◌, ◌<◌, ◌+◌, ◌⊎◌, ◌++◌, ◌∷◌, ℕ, Bool, List, String, [], length, string_bytes, string_len, ◌≤◌, true}
+use Rattle.engine_core.specs.Counts.{IsClosedIn}
+use Rattle.engine_core.specs.Stored.{Stored}
 use Rattle.commands.specs.Common.{RuleSystem, Solo}
 use Rattle.commands.specs.Answers.{Answer, Text, PutUpTo, PutBegun}
 use Rattle.commands.specs.Allowed.{IsGraded}
@@ -16,6 +18,10 @@ use Rattle.commands.specs.declared.grade.trace.TheConstants.{LINE, PIECE}
 abbrev pub IsGradeBy : Attempt → RuleSystem → RuleSystem → Grade → Type 0
 IsGradeBy tried rules search grade =
     grade ≡ listed_grade (only_set tried.set rules) search tried.options.budget
+
+-- some closing of the rules' start board makes the visits, or the sweeps, of the store's last search
+abbrev pub HasClosedStart : RuleSystem → Stored → Type 0
+HasClosedStart rules store = IsClosedIn rules rules.start store.turns
 
 -- the grade of a puzzle of Solo that single values and places don't settle, or whole houses
 abbrev pub GradesPastSingles : GradeOptions → Solo → Answer → Type 0

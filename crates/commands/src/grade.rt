@@ -7,12 +7,13 @@ ghost use Rattle.commands.specs.Allowed.{Grades, GradesId, IsGraded};
 ghost use Rattle.commands.specs.Answers.{code_of};
 ghost use Rattle.commands.specs.PuzzleFacts.{Accepts};
 ghost use Rattle.commands.specs.Stops.{LeavesSink, Says, Writes, is_broken};
-ghost use Rattle.commands.specs.TracePieces.{AreAllNamed, BeginsTrace, PutsTrace};
+ghost use Rattle.commands.specs.TracePieces.{AreAllNamed, BeginsTrace, HasClosedStart, PutsTrace};
 
 pub mod grading;
 pub mod named;
 pub mod trace;
 
+use crate::answers::decimal::push_numbered;
 use crate::answers::reply::Reply;
 use crate::answers::status::{RunResult, Status, Stop};
 use crate::ends::Sink;
@@ -23,7 +24,6 @@ use crate::grade::trace::{push_sweeps, put_visits};
 use crate::solve::solvable::Solvable;
 use engine_core::{Mode, Searchable, Store};
 use gameid_core::{Game, IdFault};
-use itoa::Buffer;
 use std::alloc::{AllocError, Global};
 
 /// The names of the rule sets.
@@ -106,11 +106,7 @@ fn grade_line(alloc: Global, grade: Grade) -> Result<String, AllocError>
     let mut text = String::new(alloc);
     match grade {
         Grade::ByRules(set) => text.push_str(set.name())?,
-        Grade::BySearch(trials) => {
-            let mut buffer = Buffer::new();
-            text.push_str("search ")?;
-            text.push_str(buffer.format(trials))?;
-        }
+        Grade::BySearch(trials) => push_numbered(&mut text, "search ", trials)?,
         Grade::NoSolution => text.push_str("none")?,
         Grade::SeveralSolutions => text.push_str("several")?,
         Grade::GaveUp => text.push_str("gave up")?,
@@ -121,7 +117,8 @@ fn grade_line(alloc: Global, grade: Grade) -> Result<String, AllocError>
 
 impl Attempt {
     /// Adds the lines of a trace to a text if one is asked for: how these rules close their start
-    /// board. What has grown to a piece is put.
+    /// board. A queue's visits are made once more, and put in pieces. Of sweeps the search that
+    /// closed that board has the number.
     fn put_trace<R: Searchable, P: Named, O: Sink>(
         self,
         puzzle: &P,
@@ -131,6 +128,7 @@ impl Attempt {
         output: &mut O,
     ) -> Result<(), Stop>
         requires fits { FitsIn (needs_of (R.system rules.now)) store.old.made }
+        requires closed { HasClosedStart (R.system rules.now) store.old }
         requires named { AreAllNamed (R.system rules.now) (P.named puzzle.now) }
         requires not_failed { O.has_failed output.old ≡ false }
         ensures put { OnOk result (PutsTrace O.takes self.options.traced
@@ -145,11 +143,13 @@ impl Attempt {
         if !self.options.traced {
             return Ok(());
         }
-        store.close(rules);
         match R::MODE {
-            Mode::Queue => put_visits(puzzle, store.trace(), text, output),
+            Mode::Queue => {
+                store.close(rules);
+                put_visits(puzzle, store.trace(), text, output)
+            }
             Mode::Sweep => {
-                push_sweeps(text, store.sweeps())?;
+                push_sweeps(text, store.turns())?;
                 Ok(())
             }
         }
@@ -166,6 +166,7 @@ impl Attempt {
         output: &mut O,
     ) -> RunResult
         requires fits { FitsIn (needs_of (R.system rules.now)) store.old.made }
+        requires closed { HasClosedStart (R.system rules.now) store.old }
         requires named { AreAllNamed (R.system rules.now) (P.named puzzle.now) }
         requires not_failed { O.has_failed output.old ≡ false }
         ensures answer { Writes O.Sink (SaysGrade grade self.options.traced

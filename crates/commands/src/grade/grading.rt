@@ -3,7 +3,7 @@ ghost use Rattle.std.specs.Prelude.{◌≡◌, true, IfOk};
 ghost use Rattle.commands.specs.Common.{needs_of, FitsIn, is_settled, Solves};
 ghost use Rattle.commands.specs.Grades.{HasOneSolution, IsRightGrade, searched_grade};
 ghost use Rattle.commands.specs.PuzzleFacts.{Accepts};
-ghost use Rattle.commands.specs.TracePieces.{IsGradeBy};
+ghost use Rattle.commands.specs.TracePieces.{HasClosedStart, IsGradeBy};
 
 use crate::grade::{Attempt, Grade};
 use crate::solve::solvable::Solvable;
@@ -11,11 +11,13 @@ use engine_core::{Searchable, Store, Verdict};
 use std::alloc::{AllocError, Global};
 
 /// Whether the rules alone settle their puzzle: it has exactly one solution then. That is so if a search without a trial says
-/// one.
+/// one. Such a search closes the start board alone, and the store tells by how many visits or sweeps.
+#[tactic(auto, using(crate::proofs::SearchedPuzzles::closed_at_once))]
 pub fn settles<R: Searchable>(store: &mut Store<R>, rules: &R) -> bool
     requires { FitsIn (needs_of (R.system rules.now)) store.old.made }
     ensures settled { result ≡ is_settled (R.system rules.now) }
     ensures one { result ≡ true → HasOneSolution (Solves (R.system rules.now)) }
+    ensures closed { HasClosedStart (R.system rules.now) store.new }
     ensures made { store.new.made ≡ store.old.made }
 {
     match store.solve(rules, 0) {
@@ -71,6 +73,7 @@ impl Attempt {
         requires accepted { Accepts (R.system rules.now) (P.game.solves puzzle.now) }
         ensures grade { IfOk result
             (IsGradeBy self (R.system rules.now) (P.game.rules puzzle.now)) }
+        ensures closed { HasClosedStart (R.system rules.now) store.new }
         ensures right { IfOk result (λ grade. IsRightGrade (P.game.solves puzzle.now) grade) }
         ensures made { store.new.made ≡ store.old.made }
     {

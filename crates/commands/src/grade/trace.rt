@@ -31,7 +31,7 @@ fn push_visit<P: Named>(puzzle: &P, visit: usize, text: &mut String) -> Result<(
 }
 
 /// Adds the line of a closing by sweeps to a text.
-pub fn push_sweeps(text: &mut String, sweeps: usize) -> Result<(), AllocError>
+pub fn push_sweeps(text: &mut String, sweeps: u128) -> Result<(), AllocError>
     ensures { OnOk result (Adds (sweeps_text sweeps) text.old text.new) }
 {
     push_numbered(text, "sweeps ", sweeps)?;

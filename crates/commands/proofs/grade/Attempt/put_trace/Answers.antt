@@ -1,5 +1,5 @@
 use Rattle.commands.proofs.Common.{[], ap, false, not-false, not-true, on_err_weaker, on_ok_weaker, refl, rules, subst, sweeps_text, sym, true, visits_text, ◌∙◌, ◌≡◌}
-use Rattle.engine_core.specs.ClosingList.{IsClosingList}
+use Rattle.engine_core.specs.ClosingList.{IsClosingList, IsClosingSweeps}
 use Rattle.engine_core.specs.Mode.{is_queue}
 use Rattle.commands.proofs.BatchLemmas.{on_any_err}
 use Rattle.commands.proofs.GradeLemmas.{is_traced, untraced}
@@ -12,8 +12,8 @@ pub returns-in_err-push_sweeps-in-Sweep-clause-begun : goal.returns-in_err-push_
 returns-in_err-push_sweeps-in-Sweep-clause-begun g c =
     let mode : (g.R.Rules.system c.args.rules.now).by_queue ≡ false = g.met.R.Rules.mode_is _ ∙ ap is_queue (sym c.MODE.ensures ∙ c.in-Sweep.is) in
     on_any_err c.from_residual.result (record {
-      lines = sweeps_text c.sweeps.result;
-      trace = is_traced _ _ _ _ (not-false _ c.if-not-self.false) mode (record { sweeps = c.sweeps.result; closing = search (rules, mode); said = refl });
+      lines = sweeps_text c.turns.result;
+      trace = is_traced _ _ _ _ (not-false _ c.if-not-self.false) mode (record { sweeps = c.turns.result; closing = subst (IsClosingSweeps _ _) (sym c.turns.ensures) (c.requires.closed.sweeps mode); said = refl });
       begun = record { done = []; took = g.met.O.Sink.takes_nothing _; begun = (_, refl) };
     })
 
@@ -21,8 +21,8 @@ pub returns-in_ok-push_sweeps-in-Sweep-clause-put : goal.returns-in_ok-push_swee
 returns-in_ok-push_sweeps-in-Sweep-clause-put g c =
     let mode : (g.R.Rules.system c.args.rules.now).by_queue ≡ false = g.met.R.Rules.mode_is _ ∙ ap is_queue (sym c.MODE.ensures ∙ c.in-Sweep.is) in
     record {
-      lines = sweeps_text c.sweeps.result;
-      trace = is_traced _ _ _ _ (not-false _ c.if-not-self.false) mode (record { sweeps = c.sweeps.result; closing = search (rules, mode); said = refl });
+      lines = sweeps_text c.turns.result;
+      trace = is_traced _ _ _ _ (not-false _ c.if-not-self.false) mode (record { sweeps = c.turns.result; closing = subst (IsClosingSweeps _ _) (sym c.turns.ensures) (c.requires.closed.sweeps mode); said = refl });
       put = record { done = []; took = g.met.O.Sink.takes_nothing _; split = sym c.in_ok-push_sweeps-in-Sweep.ensures };
     }
 
