@@ -306,12 +306,11 @@ module _ {P : Type 0} (play : PuzzleFacts P) (p : P) (budget : ℕ) (traced : Bo
   said_last grade set rules e right told = grind (arith, common_steps, rightly, last_of_one)
 
   -- the first in the list settles the puzzle
-  pub said_first : {q : RuleSystem} (set : GradedRules) {rules : RuleSystem} (rest : List NamedRules) → q ≡ rules → is_settled q ≡ true
-      → SearchedPuzzle rules (play.game.solves p) → SaysLast (ByRules set) q
+  pub said_first : (set : GradedRules) {rules : RuleSystem} (rest : List NamedRules) → is_settled rules ≡ true
+      → SearchedPuzzle rules (play.game.solves p) → SaysLast (ByRules set) rules
       → SaysBy (record { set = set; rules = rules } ∷ rest)
-  said_first set {rules} rest e settled searched told =
-      let is = ap is_settled (sym e) ∙ settled in
-      rightly (record { set = set; rules = rules } ∷ rest) (rw is (settled_one searched is)) (rw is (rw e at told))
+  said_first set {rules} rest settled searched told =
+      rightly (record { set = set; rules = rules } ∷ rest) (rw settled (settled_one searched settled)) (rw settled told)
 
   -- the first of two or more in the list doesn't
   pub said_later : {q : RuleSystem} (set : GradedRules) {rules : RuleSystem} (next : NamedRules) (rest : List NamedRules) → q ≡ rules → is_settled q ≡ false
@@ -319,8 +318,9 @@ module _ {P : Type 0} (play : PuzzleFacts P) (p : P) (budget : ℕ) (traced : Bo
   said_later set {rules} next rest e unsettled told = grind (arith, common_steps, says_as)
 
   -- rules that were made for a puzzle are its own
-  pub said_by : {q r : RuleSystem} (set : GradedRules) → q ≡ r → SaysBy (only_set set q) → SaysBy (only_set set r)
-  said_by set e told = subst (λ x. SaysBy (only_set set x)) e told
+  pub said_by : {q r : RuleSystem} (set : GradedRules) (rest : List NamedRules) → q ≡ r
+      → SaysBy (record { set = set; rules = q } ∷ rest) → SaysBy (record { set = set; rules = r } ∷ rest)
+  said_by set rest e told = subst (λ x. SaysBy (record { set = set; rules = x } ∷ rest)) e told
 
 module _ {S : Type 0} {takes : S → Text → S → Type 0} {grade : Grade} {traced : Bool} {name : ℕ → Text} {rules : RuleSystem} where
   -- the rest was delivered

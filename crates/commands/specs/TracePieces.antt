@@ -1,17 +1,20 @@
 -- How a grade is said, and how a trace is put in pieces. No contract of a run uses these words: they serve the steps that
 -- put it.
-use Rattle.std.specs.Prelude.{◌≡◌, ◌<◌, ◌+◌, ◌⊎◌, ◌++◌, ◌∷◌, ℕ, Bool, List, String, [], length, string_bytes, string_len, ◌≤◌, true}
+use Rattle.std.specs.Prelude.{◌≡◌, ◌<◌, ◌+◌, ◌⊎◌, ◌++◌, ◌∷◌, ℕ, Bool, List, Result, String, [], length, string_bytes, string_len, ◌≤◌, true}
 use Rattle.engine_core.specs.Counts.{IsClosedIn}
 use Rattle.engine_core.specs.Stored.{Stored}
-use Rattle.commands.specs.Common.{RuleSystem, Solo}
+use Rattle.commands.specs.Common.{RuleSystem}
 use Rattle.commands.specs.Answers.{Answer, Text, PutUpTo, PutBegun}
 use Rattle.commands.specs.Allowed.{IsGraded}
-use Rattle.commands.specs.Grades.{listed_grade, only_set}
-use Rattle.commands.specs.SoloFacts.{after_houses, after_singles, solo_facts}
+use Rattle.commands.specs.Grades.{NamedRules, listed_grade, only_set}
+use Rattle.commands.specs.PuzzleFacts.{PuzzleFacts}
+use Rattle.commands.specs.Stops.{LeavesSink, Writes}
 use Rattle.commands.specs.Traces.{IsTrace, visits_text}
+use Rattle.commands.specs.declared.answers.status.Status.{Status}
+use Rattle.commands.specs.declared.answers.status.Stop.{Stop}
+use Rattle.commands.specs.declared.ends.Sink as sinks
 use Rattle.commands.specs.declared.grade.Attempt.{Attempt}
 use Rattle.commands.specs.declared.grade.Grade.{Grade}
-use Rattle.commands.specs.declared.grade.GradeOptions.{GradeOptions}
 use Rattle.commands.specs.declared.grade.trace.TheConstants.{LINE, PIECE}
 
 -- the grade by the rules that are tried, the last in the list, and else by a search with its own
@@ -23,12 +26,13 @@ IsGradeBy tried rules search grade =
 abbrev pub HasClosedStart : RuleSystem → Stored → Type 0
 HasClosedStart rules store = IsClosedIn rules rules.start store.turns
 
--- the grade of a puzzle of Solo that single values and places don't settle, or whole houses
-abbrev pub GradesPastSingles : GradeOptions → Solo → Answer → Type 0
-GradesPastSingles options p = IsGraded solo_facts (after_singles p) options.budget options.traced p
-
-abbrev pub GradesPastHouses : GradeOptions → Solo → Answer → Type 0
-GradesPastHouses options p = IsGraded solo_facts (after_houses p) options.budget options.traced p
+-- The grade is said by the first rule set of a list, which settles the puzzle, whatever sets follow.
+pub record SaysFirst {P S : Type 0} (sink : sinks.Ghosts S) (play : PuzzleFacts P) (tried : Attempt)
+    (rules : RuleSystem) (p : P) (old new : S) (result : Result Status Stop) : Type 0 where
+  pub answer : (rest : List NamedRules) → Writes sink
+      (IsGraded play (record { set = tried.set; rules = rules } ∷ rest) tried.options.budget
+      tried.options.traced p) old new result
+  pub left : LeavesSink sink new result
 
 -- the sink took a text and the lines of its trace, up to a rest
 pub record PutsTrace {S : Type 0} (takes : S → Text → S → Type 0) (traced : Bool)

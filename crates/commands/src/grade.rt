@@ -1,16 +1,15 @@
 //! The answers of `grade`.
-ghost use Rattle.std.specs.Prelude.{◌≡◌, ◌++◌, false, IfErr, IfOk, OnErr, OnOk, codes, string_bytes};
-ghost use Rattle.commands.specs.Common.{needs_of, FitsIn};
+ghost use Rattle.std.specs.Prelude.{◌≡◌, ◌++◌, false, IfErr, IfOk, IfSome, None, OnErr, OnOk, codes, string_bytes};
+ghost use Rattle.commands.specs.Common.{needs_of, FitsIn, is_settled};
 ghost use Rattle.commands.specs.Games.{game_of};
 ghost use Rattle.commands.specs.Grades.{SaysGrade, grade_status, grade_text, only_set, rule_set_text};
 ghost use Rattle.commands.specs.Allowed.{Grades, GradesId, IsGraded};
 ghost use Rattle.commands.specs.Answers.{code_of};
 ghost use Rattle.commands.specs.PuzzleFacts.{Accepts};
 ghost use Rattle.commands.specs.Stops.{LeavesSink, Says, Writes, is_broken};
-ghost use Rattle.commands.specs.TracePieces.{AreAllNamed, BeginsTrace, HasClosedStart, PutsTrace};
+ghost use Rattle.commands.specs.TracePieces.{AreAllNamed, BeginsTrace, HasClosedStart, PutsTrace, SaysFirst};
 
 pub mod grading;
-pub mod named;
 pub mod trace;
 
 use crate::answers::decimal::push_numbered;
@@ -19,7 +18,7 @@ use crate::answers::status::{RunResult, Status, Stop};
 use crate::ends::Sink;
 use crate::ends::output::{deliver, refuse};
 use crate::games::by_game;
-use crate::grade::named::Named;
+use crate::grade::grading::settles;
 use crate::grade::trace::{push_sweeps, put_visits};
 use crate::solve::solvable::Solvable;
 use engine_core::{Mode, Searchable, Store};
@@ -119,7 +118,7 @@ impl Attempt {
     /// Adds the lines of a trace to a text if one is asked for: how these rules close their start
     /// board. A queue's visits are made once more, and put in pieces. Of sweeps the search that
     /// closed that board has the number.
-    fn put_trace<R: Searchable, P: Named, O: Sink>(
+    fn put_trace<R: Searchable, P: Solvable, O: Sink>(
         self,
         puzzle: &P,
         rules: &R,
@@ -156,7 +155,7 @@ impl Attempt {
     }
 
     /// Says a grade and, if a trace is asked for, how these rules close their start board.
-    pub fn say<R: Searchable, P: Named, O: Sink>(
+    pub fn say<R: Searchable, P: Solvable, O: Sink>(
         self,
         alloc: Global,
         grade: Grade,
@@ -179,8 +178,35 @@ impl Attempt {
         deliver(output, &Reply { text, status })
     }
 
+    /// Says the grade of a puzzle by these rules if they settle it, as the first of the rule sets
+    /// that are left. Where they don't, nothing is said.
+    pub fn say_if_settled<P: Solvable, R: Searchable, O: Sink>(
+        self,
+        alloc: Global,
+        puzzle: &P,
+        rules: &R,
+        output: &mut O,
+    ) -> Option<RunResult>
+        requires named { AreAllNamed (R.system rules.now) (P.named puzzle.now) }
+        requires accepted { Accepts (R.system rules.now) (P.game.solves puzzle.now) }
+        requires not_failed { O.has_failed output.old ≡ false }
+        ensures said { IfSome result (SaysFirst O.Sink P.Played self (R.system rules.now)
+            puzzle.now output.old output.new) }
+        ensures unsettled { result ≡ None → is_settled (R.system rules.now) ≡ false }
+        ensures same { result ≡ None → output.new ≡ output.old }
+    {
+        let Ok(mut store) = Store::new(alloc, rules) else {
+            return Some(Err(Stop::Memory));
+        };
+        if !settles(&mut store, rules) {
+            return None;
+        }
+        let grade = Grade::ByRules(self.set);
+        Some(self.say(alloc, grade, puzzle, rules, &mut store, output))
+    }
+
     /// Says the grade of a puzzle by these rules, the last in the list, and else by a search.
-    pub fn say_by<P: Solvable + Named, R: Searchable, O: Sink>(
+    pub fn say_by<P: Solvable, R: Searchable, O: Sink>(
         self,
         alloc: Global,
         puzzle: &P,

@@ -10,7 +10,6 @@ use crate::ends::Sink;
 use crate::generate::Recipe;
 use crate::generate::makable::{Makable, Unmade};
 use crate::generate::seed::generator;
-use crate::grade::named::Named;
 use crate::grade::{Attempt, GradeOptions, Graded, GradedRules};
 use crate::played::Played;
 use crate::solve::solvable::Solvable;
@@ -37,9 +36,15 @@ impl Solvable for LightPuzzle {
 
     ghost meaning = { λ search. light_rules search.puzzle };
 
+    ghost named = { λ _. 1 };
+
     #[tactic(auto, using(crate::proofs::SearchedPuzzles::light_accepted))]
     fn rules(&self, alloc: Global) -> Result<LightRules, AllocError> {
         LightRules::new(alloc, self)
+    }
+
+    fn push_name(&self, _number: usize, _text: &mut String) -> Result<(), AllocError> {
+        Ok(())
     }
 }
 
@@ -67,14 +72,6 @@ impl Graded for LightPuzzle {
         let set = GradedRules::Local;
         let attempt = Attempt { set, options };
         attempt.say_by(alloc, self, &local, output)
-    }
-}
-
-impl Named for LightPuzzle {
-    ghost named = { λ _. 1 };
-
-    fn push_name(&self, _number: usize, _text: &mut String) -> Result<(), AllocError> {
-        Ok(())
     }
 }
 

@@ -12,7 +12,6 @@ use crate::ends::Sink;
 use crate::generate::Recipe;
 use crate::generate::makable::{Makable, Unmade};
 use crate::generate::seed::generator;
-use crate::grade::named::Named;
 use crate::grade::{Attempt, GradeOptions, Graded, GradedRules};
 use crate::played::Played;
 use crate::solve::solvable::Solvable;
@@ -39,9 +38,20 @@ impl Solvable for PatternPuzzle {
 
     ghost meaning = { λ search. line_rules search.pattern };
 
+    ghost named = { λ p. p.size.w + p.size.h };
+
     #[tactic(auto, using(crate::proofs::SearchedPuzzles::pattern_accepted))]
     fn rules(&self, alloc: Global) -> Result<PatternLines, AllocError> {
         PatternLines::new(alloc, self)
+    }
+
+    fn push_name(&self, number: usize, text: &mut String) -> Result<(), AllocError> {
+        let w = usize::from(self.size().w());
+        if number < w {
+            push_numbered(text, "column ", number)
+        } else {
+            push_numbered(text, "row ", number - w)
+        }
     }
 }
 
@@ -66,19 +76,6 @@ impl Graded for PatternPuzzle {
         let set = GradedRules::Lines;
         let attempt = Attempt { set, options };
         attempt.say_by(alloc, self, &lines, output)
-    }
-}
-
-impl Named for PatternPuzzle {
-    ghost named = { λ p. p.size.w + p.size.h };
-
-    fn push_name(&self, number: usize, text: &mut String) -> Result<(), AllocError> {
-        let w = usize::from(self.size().w());
-        if number < w {
-            push_numbered(text, "column ", number)
-        } else {
-            push_numbered(text, "row ", number - w)
-        }
     }
 }
 

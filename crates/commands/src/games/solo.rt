@@ -1,10 +1,8 @@
 //! Solo, as the commands play it. It is graded by three rule sets in turn, and else by a search.
-ghost use Rattle.std.specs.Prelude.{◌≡◌, ◌+◌, ◌≤◌, OnOk, false, length, string_len};
+ghost use Rattle.std.specs.Prelude.{◌+◌, ◌≤◌, OnOk, length, string_len};
 ghost use Rattle.gameid_core.specs.GridTexts.{Adds};
 ghost use Rattle.commands.specs.Common.{houses_rules, scopes_of};
 ghost use Rattle.commands.specs.SoloFacts.{house_text, scope_text, solo_facts};
-ghost use Rattle.commands.specs.Stops.{LeavesSink, Writes};
-ghost use Rattle.commands.specs.TracePieces.{GradesPastHouses, GradesPastSingles};
 
 use crate::answers::check_reply::{correct_reply, wrong_line_reply, wrong_place_reply};
 use crate::answers::decimal::push_numbered;
@@ -15,12 +13,9 @@ use crate::ends::Sink;
 use crate::generate::Recipe;
 use crate::generate::makable::{Makable, Unmade};
 use crate::generate::seed::generator;
-use crate::grade::grading::settles;
-use crate::grade::named::{NAME, Named};
-use crate::grade::{Attempt, Grade, GradeOptions, Graded, GradedRules};
+use crate::grade::{Attempt, GradeOptions, Graded, GradedRules};
 use crate::played::Played;
-use crate::solve::solvable::Solvable;
-use engine_core::Store;
+use crate::solve::solvable::{NAME, Solvable};
 use gameid_core::{Game, IdFault, Printed, SoloPuzzle, read_size, read_solo, write_solo};
 use grid_core::Grid;
 use maker_core::{Made, make_solo};
@@ -47,8 +42,14 @@ impl Solvable for SoloPuzzle {
 
     ghost meaning = { λ search. houses_rules search.set.puzzle };
 
+    ghost named = { λ p. length (scopes_of p) };
+
     fn rules(&self, alloc: Global) -> Result<SoloHouses, AllocError> {
         SoloHouses::new(alloc, self)
+    }
+
+    fn push_name(&self, number: usize, text: &mut String) -> Result<(), AllocError> {
+        push_scope(text, visit_name(self, number))
     }
 }
 
@@ -74,68 +75,22 @@ impl Graded for SoloPuzzle {
         output: &mut O,
     ) -> RunResult {
         let singles = SoloSingles::new(alloc, self)?;
-        let mut store = Store::new(alloc, &singles)?;
-        if settles(&mut store, &singles) {
-            let set = GradedRules::Singles;
-            let attempt = Attempt { set, options };
-            return attempt.say(
-                alloc,
-                Grade::ByRules(set),
-                self,
-                &singles,
-                &mut store,
-                output,
-            );
+        let set = GradedRules::Singles;
+        let attempt = Attempt { set, options };
+        if let Some(said) = attempt.say_if_settled(alloc, self, &singles, output) {
+            return said;
         }
-        say_by_houses(alloc, self, options, output)
-    }
-}
-
-/// Tells the grade of a puzzle that single values and places do not settle.
-fn say_by_houses<O: Sink>(
-    alloc: Global,
-    puzzle: &SoloPuzzle,
-    options: GradeOptions,
-    output: &mut O,
-) -> RunResult
-    requires { O.has_failed output.old ≡ false }
-    ensures answer { Writes O.Sink (GradesPastSingles options puzzle.now)
-        output.old output.new result }
-    ensures left { LeavesSink O.Sink output.new result }
-{
-    let houses = SoloHouses::new(alloc, puzzle)?;
-    let mut store = Store::new(alloc, &houses)?;
-    if settles(&mut store, &houses) {
+        let houses = SoloHouses::new(alloc, self)?;
         let set = GradedRules::Houses;
         let attempt = Attempt { set, options };
-        return attempt.say(
-            alloc,
-            Grade::ByRules(set),
-            puzzle,
-            &houses,
-            &mut store,
-            output,
-        );
+        if let Some(said) = attempt.say_if_settled(alloc, self, &houses, output) {
+            return said;
+        }
+        let crossings = SoloCrossings::new(alloc, self)?;
+        let set = GradedRules::Crossings;
+        let attempt = Attempt { set, options };
+        attempt.say_by(alloc, self, &crossings, output)
     }
-    say_by_crossings(alloc, puzzle, options, output)
-}
-
-/// Tells the grade of a puzzle that whole houses do not settle.
-fn say_by_crossings<O: Sink>(
-    alloc: Global,
-    puzzle: &SoloPuzzle,
-    options: GradeOptions,
-    output: &mut O,
-) -> RunResult
-    requires { O.has_failed output.old ≡ false }
-    ensures answer { Writes O.Sink (GradesPastHouses options puzzle.now)
-        output.old output.new result }
-    ensures left { LeavesSink O.Sink output.new result }
-{
-    let crossings = SoloCrossings::new(alloc, puzzle)?;
-    let set = GradedRules::Crossings;
-    let attempt = Attempt { set, options };
-    attempt.say_by(alloc, puzzle, &crossings, output)
 }
 
 /// Most bytes of the name of a house: the longest kind, a space and a number.
@@ -166,14 +121,6 @@ fn push_scope(text: &mut String, scope: VisitName) -> Result<(), AllocError>
             text.push_str(" ")?;
             push_house(text, line)
         }
-    }
-}
-
-impl Named for SoloPuzzle {
-    ghost named = { λ p. length (scopes_of p) };
-
-    fn push_name(&self, number: usize, text: &mut String) -> Result<(), AllocError> {
-        push_scope(text, visit_name(self, number))
     }
 }
 

@@ -12,7 +12,6 @@ use crate::ends::Sink;
 use crate::generate::Recipe;
 use crate::generate::makable::{Makable, Unmade};
 use crate::generate::seed::generator;
-use crate::grade::named::Named;
 use crate::grade::{Attempt, GradeOptions, Graded, GradedRules};
 use crate::played::Played;
 use crate::solve::solvable::Solvable;
@@ -39,9 +38,15 @@ impl Solvable for TentsPuzzle {
 
     ghost meaning = { λ search. tent_rules search.puzzle };
 
+    ghost named = { λ _. 1 };
+
     #[tactic(auto, using(crate::proofs::SearchedPuzzles::tents_accepted))]
     fn rules(&self, alloc: Global) -> Result<TentRules, AllocError> {
         TentRules::new(alloc, self)
+    }
+
+    fn push_name(&self, _number: usize, _text: &mut String) -> Result<(), AllocError> {
+        Ok(())
     }
 }
 
@@ -71,14 +76,6 @@ impl Graded for TentsPuzzle {
         let set = GradedRules::Local;
         let attempt = Attempt { set, options };
         attempt.say_by(alloc, self, &local, output)
-    }
-}
-
-impl Named for TentsPuzzle {
-    ghost named = { λ _. 1 };
-
-    fn push_name(&self, _number: usize, _text: &mut String) -> Result<(), AllocError> {
-        Ok(())
     }
 }
 

@@ -10,7 +10,7 @@ use crate::answers::decimal::push_numbered;
 use crate::answers::status::Stop;
 use crate::ends::Sink;
 use crate::ends::output::put_all;
-use crate::grade::named::Named;
+use crate::solve::solvable::Solvable;
 use std::alloc::AllocError;
 
 /// How many bytes of a trace are gathered before they are put.
@@ -20,7 +20,7 @@ const PIECE: usize = 4_096;
 const LINE: usize = 60;
 
 /// Adds the line of a visit to a text.
-fn push_visit<P: Named>(puzzle: &P, visit: usize, text: &mut String) -> Result<(), AllocError>
+fn push_visit<P: Solvable>(puzzle: &P, visit: usize, text: &mut String) -> Result<(), AllocError>
     requires { visit < P.named puzzle.now }
     ensures line { OnOk result
         (Adds (line_of (P.game.visit_name puzzle.now visit)) text.old text.new) }
@@ -59,7 +59,7 @@ fn put_piece<O: Sink>(text: &mut String, output: &mut O) -> Result<(), Stop>
 }
 
 /// Puts a text and then a line for each visit, but for the end of these, which is left in the text.
-pub fn put_visits<P: Named, O: Sink>(
+pub fn put_visits<P: Solvable, O: Sink>(
     puzzle: &P,
     visits: &[usize],
     text: &mut String,
