@@ -87,12 +87,12 @@ pub use Rattle.commands.specs.PatternFacts.{pattern_facts, pattern_fault}
 pub use Rattle.commands.specs.PuzzleFacts.{GameFacts, PuzzleFacts, printed_by}
 pub use Rattle.commands.specs.Replies.{answer_in, fault_text, gave_up_answer, one_answer, refused, refused_words, verdict_answer}
 pub use Rattle.commands.specs.Runs.{Ran}
-pub use Rattle.commands.specs.SoloFacts.{after_houses, after_singles, solo_facts, solo_fault, solo_sets}
+pub use Rattle.commands.specs.SoloFacts.{sets_after_houses, sets_after_singles, solo_facts, solo_fault, solo_sets}
 pub use Rattle.commands.specs.Stops.{BeginsIfAny, RanIfAny, Wrote, status_in}
 pub use Rattle.commands.specs.TentsFacts.{tent_fault, tents_facts, tents_sizes}
 pub use Rattle.commands.specs.Texts.{Given, IsKeptText, text_limit}
 pub use Rattle.commands.specs.TracePieces.{BeginsTrace, KeptOrPut, PutInPieces, PutsTrace, TakesPieces, joined}
-pub use Rattle.commands.specs.Traces.{IsTrace, SaysClosing, line_of, sweeps_text, visits_text}
+pub use Rattle.commands.specs.Traces.{IsTrace, SaysClosing, visit_line, sweeps_text, visits_text}
 pub use Rattle.commands.specs.declared.answers.reply.Reply.{Reply}
 pub use Rattle.commands.specs.declared.grade.Grade.{Grade}
 pub use Rattle.commands.specs.declared.grade.Grade.TheVariants.{ByRules, BySearch}

@@ -35,14 +35,14 @@ scope_text (House house) = house_text house
 scope_text (Crossing block line) = house_text (Block block) ++ codes " " ++ house_text line
 
 -- the rule sets that are tried, in order
-abbrev pub after_houses : Solo → List NamedRules
-after_houses p = only_set Crossings (crossings_rules p)
+abbrev pub sets_after_houses : Solo → List NamedRules
+sets_after_houses p = only_set Crossings (crossings_rules p)
 
-abbrev pub after_singles : Solo → List NamedRules
-after_singles p = record { set = Houses; rules = houses_rules p } ∷ after_houses p
+abbrev pub sets_after_singles : Solo → List NamedRules
+sets_after_singles p = record { set = Houses; rules = houses_rules p } ∷ sets_after_houses p
 
 abbrev pub solo_sets : Solo → List NamedRules
-solo_sets p = record { set = Singles; rules = singles_rules p } ∷ after_singles p
+solo_sets p = record { set = Singles; rules = singles_rules p } ∷ sets_after_singles p
 
 -- what a rule set of Solo visits under the number
 abbrev pub solo_name : Solo → ℕ → Text

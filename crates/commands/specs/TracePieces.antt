@@ -4,7 +4,7 @@ use Rattle.std.specs.Prelude.{◌≡◌, ◌<◌, ◌+◌, ◌⊎◌, ◌++◌, 
 use Rattle.engine_core.specs.Counts.{IsClosedIn}
 use Rattle.engine_core.specs.Stored.{Stored}
 use Rattle.commands.specs.Common.{RuleSystem}
-use Rattle.commands.specs.Answers.{Answer, Text, PutUpTo, PutBegun}
+use Rattle.commands.specs.Answers.{Text, PutUpTo, PutBegun}
 use Rattle.commands.specs.Allowed.{IsGraded}
 use Rattle.commands.specs.Grades.{NamedRules, listed_grade, only_set}
 use Rattle.commands.specs.PuzzleFacts.{PuzzleFacts}
@@ -15,7 +15,7 @@ use Rattle.commands.specs.declared.answers.status.Stop.{Stop}
 use Rattle.commands.specs.declared.ends.Sink as sinks
 use Rattle.commands.specs.declared.grade.Attempt.{Attempt}
 use Rattle.commands.specs.declared.grade.Grade.{Grade}
-use Rattle.commands.specs.declared.grade.trace.TheConstants.{LINE, PIECE}
+use Rattle.commands.specs.declared.grade.trace.TheConstants.{MAX_LINE, FULL_PIECE}
 
 -- the grade by the rules that are tried, the last in the list, and else by a search with its own
 abbrev pub IsGradeBy : Attempt → RuleSystem → RuleSystem → Grade → Type 0
@@ -87,8 +87,8 @@ module _ {S Z : Type 0} (takes : S → Text → S → Type 0) (name : ℕ → Te
       PutUpTo takes old (with_visits text name visits) (string_bytes rest) new
 
   abbrev pub VisitsInPieces : S → String Z → String Z → S → Type 0
-  VisitsInPieces old text rest new = string_len text < PIECE
-      → PutInPieces takes (PIECE + LINE) old (with_visits text name visits) (string_bytes rest) new
+  VisitsInPieces old text rest new = string_len text < FULL_PIECE
+      → PutInPieces takes (FULL_PIECE + MAX_LINE) old (with_visits text name visits) (string_bytes rest) new
 
   abbrev pub VisitsBegun : S → String Z → S → Type 0
   VisitsBegun old text new = PutBegun takes old (with_visits text name visits) new

@@ -5,12 +5,12 @@ use Rattle.commands.specs.Common.{RuleSystem}
 use Rattle.commands.specs.Answers.{Text}
 use Rattle.gameid_core.specs.GridTexts.{each_below}
 
-abbrev pub line_of : Text → Text
-line_of name = name ++ codes "\n"
+abbrev pub visit_line : Text → Text
+visit_line name = name ++ codes "\n"
 
 -- a line for each visit, by the names of what was visited
 abbrev pub visits_text : (ℕ → Text) → List ℕ → Text
-visits_text name visits = each_below (λ k. line_of (name (slice_index visits k))) (length visits)
+visits_text name visits = each_below (λ k. visit_line (name (slice_index visits k))) (length visits)
 
 abbrev pub sweeps_text : ℕ → Text
 sweeps_text sweeps = codes "sweeps " ++ decimal sweeps ++ codes "\n"

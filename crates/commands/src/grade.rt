@@ -18,7 +18,7 @@ use crate::answers::status::{RunResult, Status, Stop};
 use crate::ends::Sink;
 use crate::ends::output::{deliver, refuse};
 use crate::games::by_game;
-use crate::grade::grading::settles;
+use crate::grade::grading::is_settled_by;
 use crate::grade::trace::{push_sweeps, put_visits};
 use crate::solve::solvable::Solvable;
 use engine_core::{Mode, Searchable, Store};
@@ -198,7 +198,7 @@ impl Attempt {
         let Ok(mut store) = Store::new(alloc, rules) else {
             return Some(Err(Stop::Memory));
         };
-        if !settles(&mut store, rules) {
+        if !is_settled_by(&mut store, rules) {
             return None;
         }
         let grade = Grade::ByRules(self.set);

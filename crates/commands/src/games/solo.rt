@@ -15,7 +15,7 @@ use crate::generate::makable::{Makable, Unmade};
 use crate::generate::seed::generator;
 use crate::grade::{Attempt, GradeOptions, Graded, GradedRules};
 use crate::played::Played;
-use crate::solve::solvable::{NAME, Solvable};
+use crate::solve::solvable::{MAX_NAME, Solvable};
 use gameid_core::{Game, IdFault, Printed, SoloPuzzle, read_size, read_solo, write_solo};
 use grid_core::Grid;
 use maker_core::{Made, make_solo};
@@ -94,12 +94,12 @@ impl Graded for SoloPuzzle {
 }
 
 /// Most bytes of the name of a house: the longest kind, a space and a number.
-const HOUSE: usize = 29;
+const MAX_HOUSE_NAME: usize = 29;
 
 /// Adds the name of a house: its kind, and its number among those.
 fn push_house(text: &mut String, house: NamedHouse) -> Result<(), AllocError>
     ensures name { OnOk result (Adds (house_text house) text.old text.new) }
-    ensures short { OnOk result (string_len text.new ≤ string_len text.old + HOUSE) }
+    ensures short { OnOk result (string_len text.new ≤ string_len text.old + MAX_HOUSE_NAME) }
 {
     match house {
         NamedHouse::Row(y) => push_numbered(text, "row ", y),
@@ -112,7 +112,7 @@ fn push_house(text: &mut String, house: NamedHouse) -> Result<(), AllocError>
 /// Adds the name of a house, or those of a block and of a line that it meets.
 fn push_scope(text: &mut String, scope: VisitName) -> Result<(), AllocError>
     ensures name { OnOk result (Adds (scope_text scope) text.old text.new) }
-    ensures short { OnOk result (string_len text.new ≤ string_len text.old + NAME) }
+    ensures short { OnOk result (string_len text.new ≤ string_len text.old + MAX_NAME) }
 {
     match scope {
         VisitName::House(house) => push_house(text, house),

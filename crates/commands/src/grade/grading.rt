@@ -13,7 +13,7 @@ use std::alloc::{AllocError, Global};
 /// Whether the rules alone settle their puzzle: it has exactly one solution then. That is so if a search without a trial says
 /// one. Such a search closes the start board alone, and the store tells by how many visits or sweeps.
 #[tactic(auto, using(crate::proofs::SearchedPuzzles::closed_at_once))]
-pub fn settles<R: Searchable>(store: &mut Store<R>, rules: &R) -> bool
+pub fn is_settled_by<R: Searchable>(store: &mut Store<R>, rules: &R) -> bool
     requires { FitsIn (needs_of (R.system rules.now)) store.old.made }
     ensures settled { result ≡ is_settled (R.system rules.now) }
     ensures one { result ≡ true → HasOneSolution (Solves (R.system rules.now)) }
@@ -77,7 +77,7 @@ impl Attempt {
         ensures right { IfOk result (λ grade. IsRightGrade (P.game.solves puzzle.now) grade) }
         ensures made { store.new.made ≡ store.old.made }
     {
-        if settles(store, rules) {
+        if is_settled_by(store, rules) {
             Ok(Grade::ByRules(self.set))
         } else {
             search_grade(alloc, puzzle, self.options.budget)

@@ -4,7 +4,7 @@ ghost use Rattle.gameid_core.specs.GridTexts.{Adds};
 ghost use Rattle.commands.specs.Answers.{PutUpTo, PutBegun};
 ghost use Rattle.commands.specs.Stops.{is_broken};
 ghost use Rattle.commands.specs.TracePieces.{KeptOrPut, VisitsBegun, VisitsInPieces, VisitsPut};
-ghost use Rattle.commands.specs.Traces.{line_of, sweeps_text};
+ghost use Rattle.commands.specs.Traces.{visit_line, sweeps_text};
 
 use crate::answers::decimal::push_numbered;
 use crate::answers::status::Stop;
@@ -14,17 +14,17 @@ use crate::solve::solvable::Solvable;
 use std::alloc::AllocError;
 
 /// How many bytes of a trace are gathered before they are put.
-const PIECE: usize = 4_096;
+const FULL_PIECE: usize = 4_096;
 
 /// Most bytes of the line of a visit: a name and a line end.
-const LINE: usize = 60;
+const MAX_LINE: usize = 60;
 
 /// Adds the line of a visit to a text.
 fn push_visit<P: Solvable>(puzzle: &P, visit: usize, text: &mut String) -> Result<(), AllocError>
     requires { visit < P.named puzzle.now }
     ensures line { OnOk result
-        (Adds (line_of (P.game.visit_name puzzle.now visit)) text.old text.new) }
-    ensures short { OnOk result (string_len text.new ≤ string_len text.old + LINE) }
+        (Adds (visit_line (P.game.visit_name puzzle.now visit)) text.old text.new) }
+    ensures short { OnOk result (string_len text.new ≤ string_len text.old + MAX_LINE) }
 {
     puzzle.push_name(visit, text)?;
     text.push_str("\n")
@@ -48,9 +48,9 @@ fn put_piece<O: Sink>(text: &mut String, output: &mut O) -> Result<(), Stop>
     ensures failed { IfErr result (λ stop. O.has_failed output.new ≡ is_broken stop) }
     ensures whole { OnOk result
         (KeptOrPut O.takes output.old (string_bytes text.old) (string_bytes text.new) output.new) }
-    ensures small { OnOk result (string_len text.new < PIECE) }
+    ensures small { OnOk result (string_len text.new < FULL_PIECE) }
 {
-    if text.len() < PIECE {
+    if text.len() < FULL_PIECE {
         return Ok(());
     }
     put_all(output, text.as_bytes())?;
@@ -77,7 +77,8 @@ pub fn put_visits<P: Solvable, O: Sink>(
     ensures failed { IfErr result (λ stop. O.has_failed output.new ≡ is_broken stop) }
     ensures pieces { OnOk result (VisitsInPieces O.takes (P.game.visit_name puzzle.now) visits.now
         output.old text.old text.new output.new) }
-    ensures small { string_len text.old < PIECE → OnOk result (string_len text.new < PIECE) }
+    ensures small { string_len text.old < FULL_PIECE
+        → OnOk result (string_len text.new < FULL_PIECE) }
 {
     for number in visits {
         push_visit(puzzle, *number, text)?;

@@ -10,7 +10,7 @@ use crate::played::Played;
 use std::alloc::{AllocError, Global};
 
 /// Most bytes of a name: two houses, with a space between them.
-pub const NAME: usize = 59;
+pub const MAX_NAME: usize = 59;
 
 /// A puzzle that can be searched.
 pub trait Solvable: Played {
@@ -35,5 +35,5 @@ pub trait Solvable: Played {
     fn push_name(&self, number: usize, text: &mut String) -> Result<(), AllocError>
         requires { number < named self.now }
         ensures name { OnOk result (Adds (Self.game.visit_name self.now number) text.old text.new) }
-        ensures short { OnOk result (string_len text.new ≤ string_len text.old + NAME) };
+        ensures short { OnOk result (string_len text.new ≤ string_len text.old + MAX_NAME) };
 }

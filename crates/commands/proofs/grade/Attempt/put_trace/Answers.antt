@@ -1,4 +1,4 @@
-use Rattle.commands.proofs.Common.{[], ap, false, not-false, not-true, on_err_weaker, on_ok_weaker, refl, rules, subst, sweeps_text, sym, true, visits_text, ◌∙◌, ◌≡◌}
+use Rattle.commands.proofs.Common.{[], ap, false, not-false, not-true, on_err_weaker, on_ok_weaker, refl, subst, sweeps_text, sym, true, visits_text, ◌∙◌, ◌≡◌}
 use Rattle.engine_core.specs.ClosingList.{IsClosingList, IsClosingSweeps}
 use Rattle.engine_core.specs.Mode.{is_queue}
 use Rattle.commands.proofs.BatchLemmas.{on_any_err}

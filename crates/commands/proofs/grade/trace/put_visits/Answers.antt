@@ -1,4 +1,4 @@
-use Rattle.commands.proofs.Common.{PutBegun, arith, length, line_of, refl, rules, slice_index, string_bytes, visits_text, ◌++◌, ◌+◌}
+use Rattle.commands.proofs.Common.{PutBegun, arith, length, visit_line, refl, rules, slice_index, string_bytes, visits_text, ◌++◌, ◌+◌}
 use Rattle.commands.proofs.BatchLemmas.{on_any_err}
 use Rattle.commands.proofs.RunLemmas.{no_line, line_added, piece_put, piece_begun, put_begins, lines_begun, no_pieces, line_held, next_piece}
 use Rattle.commands.proofs.grade.trace.put_visits.Goals as goal
@@ -11,7 +11,7 @@ returns-in_err-push_visit-clause-err g c =
     let begun : PutBegun g.O.Sink.takes c.args.output.now
     (string_bytes c.args.text.now ++ visits_text (g.P.Played.game.visit_name c.args.puzzle.now) c.args.visits.now)
     c.loop-number.output =
-    lines_begun _ (λ k. line_of (g.P.Played.game.visit_name c.args.puzzle.now (slice_index c.args.visits.now k)))
+    lines_begun _ (λ k. visit_line (g.P.Played.game.visit_name c.args.puzzle.now (slice_index c.args.visits.now k)))
     c.loop-number.number-index (length c.args.visits.now) (omega arith)
     (put_begins _ _ c.loop-number.invariant.0) in
     on_any_err c.from_residual.result begun
@@ -21,7 +21,7 @@ returns-in_err-put_piece-clause-err g c =
     let begun : PutBegun g.O.Sink.takes c.args.output.now
     (string_bytes c.args.text.now ++ visits_text (g.P.Played.game.visit_name c.args.puzzle.now) c.args.visits.now)
     c.put_piece.new.output =
-    lines_begun _ (λ k. line_of (g.P.Played.game.visit_name c.args.puzzle.now (slice_index c.args.visits.now k)))
+    lines_begun _ (λ k. visit_line (g.P.Played.game.visit_name c.args.puzzle.now (slice_index c.args.visits.now k)))
     (c.loop-number.number-index + 1) (length c.args.visits.now) (omega arith)
     (piece_begun g.met.O.Sink.takes_both _ _ _
     (line_added _ _ _ c.loop-number.invariant.0 c.in_ok-push_visit.ensures.line refl)

@@ -1,4 +1,4 @@
-use Rattle.commands.proofs.Common.{Crossings, Houses, IsSoloSolution, Singles, [], after_houses, after_singles, refl, rules, solo_facts}
+use Rattle.commands.proofs.Common.{Crossings, Houses, IsSoloSolution, Singles, [], sets_after_houses, sets_after_singles, refl, rules, solo_facts}
 use Rattle.commands.proofs.GradeLemmas.{accepted_by, said_by, said_later, crossings_named, houses_named, named, singles_named}
 use Rattle.commands.proofs.RunLemmas.{says_nothing}
 use Rattle.commands.proofs.SearchedPuzzles.{solo_accepted}
@@ -40,23 +40,23 @@ returns-in_err-crossings-clause-answer g c =
 pub returns-in-Some-clause-answer : goal.returns-in-Some-clause-answer
 returns-in-Some-clause-answer g c =
     let p = c.args.self.now in
-    said_by solo_facts p c.args.options.budget c.args.options.traced g.O.Sink.takes _ _ _ Singles (after_singles p)
-    c.in_ok-singles.ensures.rules (c.in-Some.ensures.said.answer (after_singles p))
+    said_by solo_facts p c.args.options.budget c.args.options.traced g.O.Sink.takes _ _ _ Singles (sets_after_singles p)
+    c.in_ok-singles.ensures.rules (c.in-Some.ensures.said.answer (sets_after_singles p))
 
 pub returns-in-Some-say_if_settled-clause-answer : goal.returns-in-Some-say_if_settled-clause-answer
 returns-in-Some-say_if_settled-clause-answer g c =
     let p = c.args.self.now in
     let o = c.args.options in
-    said_later solo_facts p o.budget o.traced g.O.Sink.takes _ _ _ Singles _ (after_houses p)
+    said_later solo_facts p o.budget o.traced g.O.Sink.takes _ _ _ Singles _ (sets_after_houses p)
     c.in_ok-singles.ensures.rules (c.in_default.ensures.unsettled refl)
-    (rw (c.in_default.ensures.same refl) at (said_by solo_facts p o.budget o.traced g.O.Sink.takes _ _ _ Houses (after_houses p)
-    c.in_ok-houses.ensures.rules (c.in-Some-say_if_settled.ensures.said.answer (after_houses p))))
+    (rw (c.in_default.ensures.same refl) at (said_by solo_facts p o.budget o.traced g.O.Sink.takes _ _ _ Houses (sets_after_houses p)
+    c.in_ok-houses.ensures.rules (c.in-Some-say_if_settled.ensures.said.answer (sets_after_houses p))))
 
 pub returns-clause-answer : goal.returns-clause-answer
 returns-clause-answer g c =
     let p = c.args.self.now in
     let o = c.args.options in
-    said_later solo_facts p o.budget o.traced g.O.Sink.takes _ _ _ Singles _ (after_houses p)
+    said_later solo_facts p o.budget o.traced g.O.Sink.takes _ _ _ Singles _ (sets_after_houses p)
     c.in_ok-singles.ensures.rules (c.in_default.ensures.unsettled refl)
     (rw (c.in_default.ensures.same refl) at (said_later solo_facts p o.budget o.traced g.O.Sink.takes _ _ _ Houses _ []
     c.in_ok-houses.ensures.rules (c.in_default-say_if_settled.ensures.unsettled refl)

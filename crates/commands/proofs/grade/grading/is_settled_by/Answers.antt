@@ -1,6 +1,6 @@
 use Rattle.commands.proofs.Common.{sym}
 use Rattle.commands.proofs.GradeLemmas.{one_settled, settled_one, unsettled}
-use Rattle.commands.proofs.grade.grading.settles.Goals as goal
+use Rattle.commands.proofs.grade.grading.is_settled_by.Goals as goal
 
 pub returns-in-One-clause-settled : goal.returns-in-One-clause-settled
 returns-in-One-clause-settled g c =
