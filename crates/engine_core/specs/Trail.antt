@@ -1,5 +1,5 @@
 -- A board with the trail of its changes, as a position, and which houses wait. No public contract uses these words.
-use Rattle.std.specs.Prelude.{Bool, List, Option, false, if◌then◌else◌, length, nat_le, not, slice_index, slice_index_or, suc, true, zero, ℕ, ◌&&◌, ◌*◌, ◌+◌, ◌<◌, ◌==◌, ◌^◌, ◌≡◌, ◌≢◌, ◌≤◌}
+use Rattle.std.specs.Prelude.{Bool, List, Option, false, length, nat_le, not, slice_index, slice_index_or, true, ℕ, ◌&&◌, ◌*◌, ◌+◌, ◌<◌, ◌==◌, ◌^◌, ◌≡◌, ◌≢◌, ◌≤◌}
 use Rattle.engine_core.specs.Below.{Candidates, IsInside, Layout, SameShape, any_below, cells_of, has, put_back, total, with_set}
 use Rattle.engine_core.specs.RuleSystem.{FitsIn, IsBoardOf, Needs, RuleSystem, after, has_place, needs_of}
 use Rattle.engine_core.specs.ClosingList.{IsAlive, IsDeadAfter}
