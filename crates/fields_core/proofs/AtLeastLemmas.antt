@@ -1,8 +1,8 @@
 -- Houses of one at least, by the cells of theirs that can be ones.
 use Rattle.fields_core.proofs.Common.{AllByRecursion, AreIdle, Bool, Candidates, CountHouse, IsHouse, IsInside, IsTally, List, Tally, [], after_house, after_houses, and-true, and_parts, ap, arith, cases_Bool, cases_eq, cases_lt, common_steps, cond, count_by, count_by-le-length, eqb, eqb-true, false, false_from_ne_true, fun_ext, has_place, has_place-at, inl, inr, is_empty, le-ltb, length, ltb, ne_eqb, not, one_at_least, or_cases, or_left, or_right, refl, strikes_of, suc, sym, true, true≢false, without_zeros, zero, ℕ, ◌&&◌, ◌<◌, ◌||◌, ◌∙◌, ◌∷◌, ◌≡◌, ◌≢◌, ◌≤◌, ◌⊎◌}
-use Rattle.fields_core.proofs.VisitLemmas.{IsBinaryAlive, after-inside, count-two, others-stay, visits-inside}
+use Rattle.fields_core.proofs.VisitLemmas.{IsBinaryAlive, after-inside, others-stay, visits-inside}
 use Rattle.fields_core.proofs.IdleLemmas.{KeepsIdle, any_has, full-between, idle-first, idle-rest}
-use Rattle.fields_core.proofs.PlaceLists.{count-some, count-cons, count-none, num, num-most}
+use Rattle.fields_core.proofs.PlaceLists.{count-cons, count-none, count-some, count-two, num, num-most}
 use Rattle.fields_core.proofs.HouseLemmas.{counts-same}
 use Rattle.fields_core.proofs.CountKept.{after-at, off-scope, has-value}
 
@@ -89,7 +89,7 @@ module _ {cells : ℕ} {places : List ℕ} (K : Candidates) (is : IsHouse cells 
   -- ---- two cells that can be ones: the house is idle
   module _ (d e : ℕ) (ne : d ≢ e) (in_d : has_place places d ≡ true) (in_e : has_place places e ≡ true) (on_d : K d 1 ≡ true) (on_e : K e 1 ≡ true) where
     several : 1 < count_by (λ c. K c 1) places
-    several = count-two (λ c. K c 1) places d e ne in_d in_e on_d on_e
+    several = count-two (λ c. K c 1) places d e in_d in_e on_d on_e ne
 
     none-lone : (c : ℕ) → is_lone places K c ≡ false
     none-lone c = rw (ne_eqb (count_by (λ d. K d 1) places) 1 (λ e. absurd (omega (arith, several)))) (grind (arith, common_steps, cases_Bool (K c 1), cases_Bool (has_place places c)))
@@ -110,7 +110,7 @@ module _ {cells : ℕ} {places : List ℕ} (K : Candidates) (is : IsHouse cells 
   -- ---- a cell that must be a one: the house is idle
   module _ (d : ℕ) (in_d : has_place places d ≡ true) (on_d : K d 1 ≡ true) (must : K d 0 ≡ false) where
     never-lone : {c : ℕ} → c ≢ d → is_lone places K c ≡ false
-    never-lone {c} ne = grind (arith, common_steps, false_from_ne_true, and_parts, eqb-true, count-two)
+    never-lone {c} ne = grind (arith, common_steps, false_from_ne_true, and_parts, eqb-true, several)
 
     pub must-stay : after_house (one_at_least places) K ≡ K
     unfolding without_zeros

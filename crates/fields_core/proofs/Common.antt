@@ -77,14 +77,14 @@ pub use Rattle.fields_core.specs.LightFaults.{FailsLight, IsLightFault, light_te
 pub use Rattle.fields_core.specs.LightHouses.{column_house, light_counts, light_house, light_rules, lit_house, number_house, row_house}
 unfoldable pub use Rattle.fields_core.specs.LightHouses.{begins_column_run, begins_row_run, column_run, light_houses, row_run, seen_from}
 pub use Rattle.fields_core.specs.LightRuns.{asks, lonely}
-pub use Rattle.fields_core.specs.LightPlanes.{ArePlanesOf, AreTablesKept}
+pub use Rattle.fields_core.specs.LightPlanes.{ArePlanesOf}
 pub use Rattle.fields_core.specs.LightRunLines.{AreAround, AreRunsOf, IsClash, IsRunOf, column_runs_of_column}
 pub use Rattle.fields_core.specs.LightRuns.{AreFilled, AreWritten, IsRunAt}
 pub use Rattle.fields_core.specs.LightRuns.{IsAround, IsLatest, begins_at, line_cells, line_white, run_house}
 pub use Rattle.fields_core.specs.LightRuns.{RunsBack, RunsOn, SeesAlong, ShinesAlong}
 pub use Rattle.fields_core.specs.LightSolutions.{AreJoined, IsFromTo, IsLightSolution, Sees, SeesBulb, light_column, light_row}
 pub use Rattle.fields_core.specs.LightWaits.{AreColumnsParted, AreIdleBut, AreLightsReady, AreLinesRested, AreLinesWoken, AreParted, AreSafe}
-pub use Rattle.fields_core.specs.LightWaits.{AreSafeInColumns, AreWhitesIdleBut, IsAway, IsReach, lits_of_row, run_houses, run_lines, waiting_runs}
+pub use Rattle.fields_core.specs.LightWaits.{AreSafeInColumns, AreWhitesIdleBut, IsAway, IsReach, line_board, lits_of_row, run_houses, run_lines, waiting_runs}
 pub use Rattle.fields_core.specs.LightWaits.{white_houses}
 pub use Rattle.fields_core.specs.LightPlanes.{IsColumnRun, IsRowRun, has_number, numbers_of_row, row_runs_of_row}
 unfoldable pub use Rattle.fields_core.specs.LightPlanes.{is_numbered}

@@ -290,11 +290,6 @@ lits-safe {p} houses {from} {to} each of visited safe =
       ];
     }
 
-pub rows-safe : {room : ℕ} {p : Light} (m : ℕ) {from to : Layers} {cells : ℕ → Bool} → ArePlanesOf room p from → m ≤ p.size.h
-    → AreVisited (houses_below (lits_of_row p) m) from to true → AreSafe cells (has from) → AreSafe cells (has to)
-rows-safe {p} m of le visited safe =
-    lits-safe (houses_below (lits_of_row p) m) (all-houses (IsAll (light_cells p)) (lits_of_row p) m (λ y lt. row-lits {y = y} of.lawful (omega arith))) of visited safe
-
 -- rows that no cell that waits is in
 pub out-idle : {W : Type 0} {bits : W → ℕ} {room : ℕ} {p : Light} {from : Layers} {notes : LightNotes W} {first end : ℕ} → AreLightsReady bits room p from notes
     → IsReach bits p notes.waits.ones first end → (y : ℕ) → y < p.size.h → (y < first) ⊎ (end ≤ y) → AreIdle (lits_of_row p y) (has from)
@@ -331,9 +326,9 @@ planes-next of further alive = grind (arith, common_steps)
 
 -- what does not wait is idle again
 pub ready-next : {W : Type 0} {bits : W → ℕ} {room : ℕ} {p : Light} {from to : Layers} {notes : LightNotes W} → AreLightsReady bits room p from notes
-    → IsFurther from to → ArePlanesAlive to → (now : LightNotes W) → now.tables ≡ notes.tables → length now.safe.items ≡ length notes.safe.items
+    → IsFurther from to → ArePlanesAlive to → (now : LightNotes W) → now.tables ≡ notes.tables
     → AreLinesRested bits p now.waits (has to) → AreLightsReady bits room p to now
-ready-next {bits = bits} {room = room} {p = p} ready further alive now tables long rested = grind (arith, common_steps, planes-next)
+ready-next {bits = bits} {room = room} {p = p} ready further alive now tables rested = grind (arith, common_steps, planes-next)
 
 -- ---- what a closing asks of planes
 pub planes-of : {room : ℕ} {p : Light} {planes : Layers} → IsLight p → HasBoard (light_rules p) p.size room planes → ArePlanesOf room p planes

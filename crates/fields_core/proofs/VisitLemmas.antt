@@ -1,9 +1,9 @@
 -- Visits of count houses, one after another; of those of one at most.
-use Rattle.fields_core.proofs.Common.{AllByRecursion, AreHouses, AreMet, ArePlanesAlive, AreVisited, Bool, Candidates, CountHouse, CountPuzzle, IsBroken, IsFurther, IsHouse, IsInside, IsTally, Layers, List, Tally, [], after, after_house, after_houses, and-false, and-true, and_parts, ap, append-nil, append_assoc, arith, cases_Bool, cases_eq, cells_of, common_steps, count_by, count_house_of, count_puzzle, eq-eqb, eqb, eqb-true, false, false_from_ne_true, false≢true, fun_ext, further-more, further-none, get_or-append_right, get_or-append_seam, has, has_place, has_place-at, has_place-here, houses_below, inl, inr, is_empty, is_open, le-ltb, length, length-append, list_any, lt-ltb, ltb, meets, ne_eqb, no_count_house, not, or_cases, range_with_len, refl, slice_index, subst, suc, sym, true, true≢false, zero, ℕ, ◌&&◌, ◌*◌, ◌++◌, ◌+◌, ◌-◌, ◌<◌, ◌||◌, ◌∙◌, ◌∷◌, ◌≡◌, ◌≢◌, ◌≤◌, ◌⊎◌}
+use Rattle.fields_core.proofs.Common.{AllByRecursion, AreHouses, AreMet, ArePlanesAlive, AreVisited, Bool, Candidates, CountHouse, CountPuzzle, IsBroken, IsFurther, IsHouse, IsInside, IsTally, Layers, List, Tally, [], after, after_house, after_houses, and-false, and-true, and_parts, ap, append-nil, append_assoc, arith, cases_Bool, cases_eq, cells_of, common_steps, count_by, count_house_of, count_puzzle, eq-eqb, eqb, false, false_from_ne_true, false≢true, fun_ext, further-more, further-none, get_or-append_right, get_or-append_seam, has, has_place, has_place-at, has_place-here, houses_below, inl, inr, is_empty, is_open, le-ltb, length, length-append, list_any, lt-ltb, ltb, meets, ne_eqb, no_count_house, not, or_cases, range_with_len, refl, slice_index, subst, suc, sym, true, true≢false, zero, ℕ, ◌&&◌, ◌*◌, ◌++◌, ◌+◌, ◌-◌, ◌<◌, ◌||◌, ◌∙◌, ◌∷◌, ◌≡◌, ◌≢◌, ◌≤◌, ◌⊎◌}
 use Rattle.engine_core.specs.Closing.{replay}
 use Rattle.fields_core.proofs.HouseLemmas.{below-more}
 use Rattle.fields_core.proofs.CountKept.{after-at, has-value, off-scope}
-use Rattle.fields_core.proofs.PlaceLists.{count-cons, count-none, count-some, some-counted}
+use Rattle.fields_core.proofs.PlaceLists.{count-none, count-some, count-two, some-counted}
 
 -- Visits of count houses, one after another, and which houses are among those of a puzzle.
 
@@ -244,30 +244,12 @@ visits-met {cells} (house ∷ houses) K full (one, all) =
     (grind (arith, common_steps, cases_Bool (K c v), cases_Bool (eqb v 1), cases_Bool (K c 0), cases_Bool (is_met (zeros_of K) house c), cases_Bool (list_any (λ h. is_met (zeros_of K) h c) houses)))
 
 -- ---- two cells of a house without 0
-pub count-two : (test : ℕ → Bool) (xs : List ℕ) (d e : ℕ) → d ≢ e → has_place xs d ≡ true → has_place xs e ≡ true
-    → test d ≡ true → test e ≡ true → 1 < count_by test xs
-unfolding has_place
-count-two test [] d e ne in_d in_e on_d on_e = absurd (false≢true in_d)
-count-two test (x ∷ xs) d e ne in_d in_e on_d on_e = elim (or_cases (eqb x d) (has_place xs d) in_d) [
-  | inl here ↦ elim (or_cases (eqb x e) (has_place xs e) in_e) [
-    | inl both ↦ absurd (ne (sym (eqb-true x d here) ∙ eqb-true x e both))
-    | inr more ↦ first d e (eqb-true x d here) on_d more on_e
-  ]
-  | inr more ↦ elim (or_cases (eqb x e) (has_place xs e) in_e) [
-    | inl here ↦ first e d (eqb-true x e here) on_e more on_d
-    | inr both ↦ omega (arith, count-cons test x xs, count-two test xs d e ne more both on_d on_e)
-  ]
-]
-  where
-    first : (a b : ℕ) → x ≡ a → test a ≡ true → has_place xs b ≡ true → test b ≡ true → 1 < count_by test (x ∷ xs)
-    first a b same on_a there on_b = grind (arith, common_steps, count-cons, count-some)
-
 after-two : {cells : ℕ} {house : CountHouse} (K : Candidates) {d e v : ℕ} → IsHouse cells house → house.most ≡ 1
     → d ≢ e → has_place house.places d ≡ true → has_place house.places e ≡ true → K d 0 ≡ false → K e 0 ≡ false
     → v < 2 → after_house house K d v ≡ false
 after-two {cells} {house} K {d} {e} {v} is one ne in_d in_e off_d off_e low =
     let w = has_place-at house.places d in_d in
-    let many = count-two (λ c. not (K c 0)) house.places d e ne in_d in_e (ap not off_d) (ap not off_e) in
+    let many = count-two (λ c. not (K c 0)) house.places d e in_d in_e (ap not off_d) (ap not off_e) ne in
     rw w.2 at (after-at cells house K (tally_in K house.places) is (counted-in K house.places) w.1 low)
     ∙ rw (one, lt-ltb _ _ many) (by (K d v) (ltb 0 (count_by (is_empty K) house.places)) (ltb 1 house.least) (ltb (count_by (λ c. K c 1) house.places) house.least) _)
   where

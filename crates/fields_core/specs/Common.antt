@@ -34,14 +34,14 @@ pub use Rattle.fields_core.specs.LightHouses.{AddsAll, AddsHouse, AreLightNames,
 pub use Rattle.fields_core.specs.LightHouses.{row_house}
 unfoldable pub use Rattle.fields_core.specs.LightHouses.{light_houses}
 pub use Rattle.fields_core.specs.LightRuns.{asks, lonely}
-pub use Rattle.fields_core.specs.LightPlanes.{AreLightsWritten, ArePlanesOf, AreRowTables, AreTables, AreTablesKept, HasLightRoom, HasTables}
+pub use Rattle.fields_core.specs.LightPlanes.{AreLightsWritten, ArePlanesOf, AreRowTables, AreTables, HasTables}
 pub use Rattle.fields_core.specs.LightRunLines.{AreAround, AreAroundAlong, AreRunsOf, AreRunsVisited, IsClash, ReachesAlong, ReachesMarked, along}
 pub use Rattle.fields_core.specs.LightRuns.{AreFilled, AreRunsWritten, AreWritten, IsFilledIn}
 pub use Rattle.fields_core.specs.LightRuns.{AddsRun, IsAround, IsLatest, IsLine, TellsRun, house_along, line_cells, whites_of}
 pub use Rattle.fields_core.specs.LightRuns.{RunsOn, ShinesAlong, ShinesInLine}
 pub use Rattle.fields_core.specs.LightSolutions.{IsLightSolution}
-pub use Rattle.fields_core.specs.LightWaits.{AreAlwaysRested, AreColumnsPartedFrom, AreIdleBut, AreLightsReady, AreLinesRested, AreLinesWoken, AreLinesWokenSince, AreNumbersSettled, AreRowsSafe, AreRunLines, AreSafeInColumns, AreThoseMet}
-pub use Rattle.fields_core.specs.LightWaits.{AreSettled, AreWhitesIdleBut, all_runs, lits_of_row, meets_line, run_houses, run_lines, waiting_runs}
+pub use Rattle.fields_core.specs.LightWaits.{AreAlwaysRested, AreColumnsPartedFrom, AreIdleBut, AreLightsReady, AreLinesRested, AreLinesWoken, AreLinesWokenSince, AreNumbersSettled, AreRunLines, AreSafe, AreSafeInColumns, AreThoseMet}
+pub use Rattle.fields_core.specs.LightWaits.{AreSettled, AreWhitesIdleBut, all_runs, line_board, lits_of_row, meets_line, run_houses, run_lines, waiting_runs}
 pub use Rattle.fields_core.specs.LightWaits.{white_houses}
 pub use Rattle.fields_core.specs.LightPlanes.{numbers_of_row}
 unfoldable pub use Rattle.fields_core.specs.LightPlanes.{is_numbered}

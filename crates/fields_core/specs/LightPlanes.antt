@@ -53,11 +53,6 @@ pub record HasTables {W : Type 0} (cells lines : ℕ) (t : LightTables W) : Type
   pub row_runs : cells ≤ length t.row_runs.items
   pub column_runs : cells ≤ length t.column_runs.items
 
--- and words of the lines beside them
-pub record HasLightRoom {W : Type 0} (cells lines : ℕ) (notes : LightNotes W) : Type 0 where
-  pub tables : HasTables cells lines notes.tables
-  pub safe : lines ≤ length notes.safe.items
-
 -- the words of the rows are those of the puzzle
 pub record AreRowTables {W : Type 0} (bits : W → ℕ) (p : Light) (t : LightTables W) : Type 0 where
   pub rows : AreRowsOf p.size (white p) (map bits t.rows.items)
@@ -83,8 +78,3 @@ pub record ArePlanesOf (room : ℕ) (p : Light) (planes : Layers) : Type 0 where
   pub low : p.size.h ≤ room
   pub size : planes.size ≡ p.size
   pub alive : ArePlanesAlive planes
-
--- the words of the puzzle are the same, and there is as much room
-pub record AreTablesKept {W : Type 0} (before now : LightNotes W) : Type 0 where
-  pub tables : now.tables ≡ before.tables
-  pub safe : length now.safe.items ≡ length before.safe.items

@@ -1,5 +1,5 @@
 -- Which houses of Light Up wait on planes. No public contract uses these words.
-use Rattle.std.specs.Prelude.{◌≡◌, ◌≢◌, ℕ, ◌+◌, ◌*◌, ◌/◌, ◌%◌, ◌<◌, ◌≤◌, Bool, true, false, ◌&&◌, ◌||◌, ◌⊎◌, nat_lt, List, ◌++◌, length, slice_index}
+use Rattle.std.specs.Prelude.{◌≡◌, ◌≢◌, ℕ, ◌+◌, ◌*◌, ◌/◌, ◌%◌, ◌<◌, ◌≤◌, Bool, true, false, ◌&&◌, ◌||◌, ◌⊎◌, nat_lt, List, ◌++◌, suc, zero}
 use Rattle.fields_core.specs.Below.{AreLinesOf, Candidates, Extent, IsFurther, IsLight, Layers, Light, Touched, has, has_bit, has_place}
 use Rattle.fields_core.specs.CountHouse.{CountHouse, houses_below}
 use Rattle.fields_core.specs.Light.{clear, light_cells, joined_in_column, white}
@@ -128,13 +128,12 @@ AreLinesWokenSince bits room len planes before now = (p : Light) (from : Layers)
     → IsFurther from planes → AreLinesRested bits p before (has from)
     → AreLinesRested bits p now (has planes)
 
--- planes of a puzzle, with its words and room for more; what does not wait is idle
+-- planes of a puzzle, with its words; what does not wait is idle
 pub record AreLightsReady {W : Type 0} (bits : W → ℕ) (room : ℕ) (p : Light) (planes : Layers)
     (notes : LightNotes W)
     : Type 0 where
   pub planes_of : ArePlanesOf room p planes
   pub tables : AreTables bits p notes.tables
-  pub safe_long : room ≤ length notes.safe.items
   pub rested : AreLinesRested bits p notes.waits (has planes)
 
 -- ---- white cells
@@ -158,10 +157,10 @@ abbrev pub AreSafeInColumns : Light → ℕ → ℕ → Candidates → Type 0
 AreSafeInColumns p y bits K = (x : ℕ) → has_bit bits x ≡ true
     → AreSafe (joined_in_column p (y * p.size.w + x)) K
 
--- and of the rows from one on and before another
-abbrev pub AreRowsSafe : Light → ℕ → ℕ → List ℕ → Candidates → Type 0
-AreRowsSafe p first end words K = (y : ℕ) → first ≤ y → y < end
-    → AreSafeInColumns p y (slice_index words y) K
+-- what two words say of the cells of a line: those that can have 0, and those that can have 1
+abbrev pub line_board : ℕ → ℕ → Candidates
+line_board zeros ones k zero = has_bit zeros k
+line_board zeros ones k (suc v) = has_bit ones k
 
 -- the houses of the white cells of a row
 abbrev pub lits_of_row : Light → ℕ → List CountHouse

@@ -10,15 +10,14 @@ use crate::planes::light_up::tables::{LightTables, cells_of_row, write_runs};
 use crate::planes::light_up::waits::LineWaits;
 use engine_core::{Needs, PlaneNotes, Taken};
 use gameid_core::LightPuzzle;
-use grid_core::{Fixed, Line, Planes, Word};
+use grid_core::{Line, Planes, Word};
 use std::alloc::{AllocError, Global};
 
-/// What is kept of a puzzle. While a closing goes on, also what waits, and a word for each row (`LightTables::write_safe`).
+/// What is kept of a puzzle, and what waits while a closing goes on.
 #[derive(Drop)]
 pub struct LightNotes<W: Word> {
     pub(crate) tables: LightTables<W>,
     pub(crate) waits: LineWaits<W>,
-    pub(crate) safe: Fixed<W>,
 }
 
 impl<W: Word> LightTables<W> {
@@ -68,9 +67,9 @@ impl<W: Word> LightTables<W> {
 
 impl<W: Word> PlaneNotes<W, CountRules<LightPuzzle>> for LightNotes<W> {
     ghost use Rattle.std.proofs.Common.{subst, sym};
-    ghost use Rattle.fields_core.specs.LightPlanes.{AreLightsWritten, HasLightRoom};
+    ghost use Rattle.fields_core.specs.LightPlanes.{AreLightsWritten, HasTables};
 
-    ghost fits = { λ notes needs. HasLightRoom needs.cells W.room notes };
+    ghost fits = { λ notes needs. HasTables needs.cells W.room notes.tables };
 
     ghost written = { λ rules notes. AreLightsWritten W.bits rules.puzzle notes };
 
@@ -78,7 +77,6 @@ impl<W: Word> PlaneNotes<W, CountRules<LightPuzzle>> for LightNotes<W> {
         Ok(LightNotes {
             tables: LightTables::new(alloc, made.cells)?,
             waits: LineWaits::all(),
-            safe: Fixed::copies(alloc, W::none(), W::places())?,
         })
     }
 
@@ -99,14 +97,14 @@ impl<W: Word> PlaneNotes<W, CountRules<LightPuzzle>> for LightNotes<W> {
     }
 
     ghost fits_smaller = { λ notes need had fits room.
-        subst (λ n. HasLightRoom n W.room notes) (sym fits.same_cells) room };
+        subst (λ n. HasTables n W.room notes.tables) (sym fits.same_cells) room };
 }
 
 impl<W: Word> SweepNotes<W, LightPuzzle> for LightNotes<W> {
-    ghost use Rattle.fields_core.specs.LightPlanes.{AreLightsWritten, HasLightRoom};
+    ghost use Rattle.fields_core.specs.LightPlanes.{AreLightsWritten, HasTables};
     ghost use Rattle.fields_core.specs.LightWaits.{AreLightsReady};
 
-    ghost fits = { λ notes needs. HasLightRoom needs.cells W.room notes };
+    ghost fits = { λ notes needs. HasTables needs.cells W.room notes.tables };
 
     ghost written = { λ p notes. AreLightsWritten W.bits p notes };
 

@@ -2,7 +2,7 @@
 #![tactic(auto, using(crate::proofs::LawSets::tent_sweep_laws))]
 
 ghost use Rattle.std.specs.Prelude.{◌≡◌, true};
-ghost use Rattle.fields_core.specs.Common.{AreLightsReady, AreTablesKept, AreVisited, all_runs, in_grid, in_rows, lit_house, numbers_of_row, white_houses};
+ghost use Rattle.fields_core.specs.Common.{AreLightsReady, AreVisited, all_runs, in_grid, in_rows, lit_house, numbers_of_row, white_houses};
 
 use crate::planes::light_up::light_notes::LightNotes;
 use crate::planes::light_up::visits::visit_numbers;
@@ -18,7 +18,7 @@ impl<W: Word> LightNotes<W> {
             planes.old planes.new result }
         ensures ready { result ≡ true
             → AreLightsReady W.bits W.room puzzle.now planes.new self.new }
-        ensures kept { AreTablesKept self.old self.new }
+        ensures kept { self.new.tables ≡ self.old.tables }
     {
         let mut left = self.waits.numbers.both(planes.rows());
         while left.is_some() {
@@ -45,7 +45,7 @@ impl<W: Word> LightNotes<W> {
         ensures visited { AreVisited (all_runs puzzle.now kind) planes.old planes.new result }
         ensures ready { result ≡ true
             → AreLightsReady W.bits W.room puzzle.now planes.new self.new }
-        ensures kept { AreTablesKept self.old self.new }
+        ensures kept { self.new.tables ≡ self.old.tables }
     {
         let len = planes.len();
         let mut left = self.waits.runs(kind).both(kind.lines(planes));
@@ -64,21 +64,20 @@ impl<W: Word> LightNotes<W> {
     }
 
     /// Visits the white cells that may strike, up to one without a filling. They take 0 alone, which binds none of them. Below
-    /// a cell in whose column run a cell must have a bulb, none of that run is looked at.
+    /// a cell that is passed for its column run, none of that run is looked at.
     fn sweep_cells(&mut self, planes: &mut Planes<W>, puzzle: &LightPuzzle) -> bool
         requires ready { AreLightsReady W.bits W.room puzzle.now planes.old self.old }
         ensures visited { AreVisited (in_grid puzzle.now lit_house) planes.old planes.new result }
         ensures ready { result ≡ true
             → AreLightsReady W.bits W.room puzzle.now planes.new self.new }
-        ensures kept { AreTablesKept self.old self.new }
+        ensures kept { self.new.tables ≡ self.old.tables }
     {
         let len = planes.len();
         let rows = self.tables.reach(planes, puzzle, self.waits.ones);
-        self.tables.write_safe(&mut self.safe, planes, puzzle, rows);
         let mut above = W::none();
         for y in rows.0..rows.1 {
             let whites = self.tables.rows[y];
-            above = self.safe[y].either(above.both(whites));
+            above = above.both(whites);
             let some = self.waits.whites(y, whites.but(above));
             let Some(met) = self.tables.visit_lits(planes, puzzle, y as u8, some) else {
                 return false;
@@ -96,7 +95,7 @@ impl<W: Word> LightNotes<W> {
         ensures visited { AreVisited (white_houses puzzle.now) planes.old planes.new result }
         ensures ready { result ≡ true
             → AreLightsReady W.bits W.room puzzle.now planes.new self.new }
-        ensures kept { AreTablesKept self.old self.new }
+        ensures kept { self.new.tables ≡ self.old.tables }
     {
         self.sweep_runs(planes, puzzle, RunKind::Rows)
             && self.sweep_runs(planes, puzzle, RunKind::Columns)

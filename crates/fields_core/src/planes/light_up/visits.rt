@@ -1,20 +1,30 @@
 //! Visits of the houses of Light Up by the words that are kept of a puzzle.
 
 ghost use Rattle.std.specs.Prelude.{◌≡◌, ℕ, ◌+◌, ◌*◌, ◌<◌, ◌≤◌, ◌&&◌, ◌||◌, ◌==◌, true, IfNone, IfSome, is_some, length, map, nat_lt};
-ghost use Rattle.fields_core.specs.Common.{AreAroundAlong, AreIdleBut, ArePlanesAlive, ArePlanesOf, AreRowsSafe, AreRunsVisited, AreSafeInColumns, AreTables, AreVisited, AreWhitesIdleBut, IsClash, ReachesAlong, ReachesMarked, along, count_below, has, has_bit, house_at, line_len, lines_beside, lit_house, lits_of_row, number_house, number_of, numbers_of_row, run_houses, run_lines};
+ghost use Rattle.fields_core.specs.Common.{AreAroundAlong, AreIdleBut, ArePlanesAlive, ArePlanesOf, AreRunsVisited, AreSafe, AreSafeInColumns, AreTables, AreVisited, AreWhitesIdleBut, IsClash, ReachesAlong, ReachesMarked, along, count_below, has, has_bit, house_at, line_board, line_len, lines_beside, lit_house, lits_of_row, number_house, number_of, numbers_of_row, run_houses, run_lines};
 
 use crate::light_up::cells::columns;
 use crate::planes::light_up::tables::LightTables;
 use crate::planes::light_up::waits::RunKind;
 use crate::planes::visit::{Part, Parts, visit};
 use gameid_core::{LightCell, LightPuzzle};
-use grid_core::{Fixed, Line, Planes, Word, row_place};
+use grid_core::{Line, Planes, Word, row_place};
 
 /// Whether the word has two places or more.
 fn has_two<W: Word>(word: W) -> bool
     ensures { result ≡ nat_lt 1 (count_below (has_bit (W.bits word)) W.room) }
 {
     word.is_some() && word.without_lowest().is_some()
+}
+
+/// Whether two cells of the run can have a bulb, or one must.
+#[inline(always)]
+fn is_safe<W: Word>(run: W, ones: W, zeros: W) -> bool
+    ensures { result ≡ true
+        → AreSafe (has_bit (W.bits run)) (line_board (W.bits zeros) (W.bits ones)) }
+{
+    let may = run.both(ones);
+    has_two(may) || may.but(zeros).is_some()
 }
 
 /// The numbers of a line in a run with a marked one, or nothing if a run has two. That of `k` is at `first + k * stride`.
@@ -196,8 +206,8 @@ impl<W: Word> LightTables<W> {
     }
 
     /// Visits the houses of some white cells of a row, up to one that has no filling: all others are idle. Those of a run are
-    /// passed where two of its cells can have a bulb, or one must. So is a cell where one of its column run must: gives those,
-    /// or nothing where a house has no filling.
+    /// passed where two of its cells can have a bulb, or one must. So is a cell where that is so of its column run: gives
+    /// those, or nothing where a house has no filling.
     pub(crate) fn visit_lits(
         &self,
         planes: &mut Planes<W>,
@@ -217,57 +227,26 @@ impl<W: Word> LightTables<W> {
     {
         let w = columns(puzzle);
         let ones = planes.row(y, 1);
-        let must = ones.but(planes.row(y, 0));
-        let (mut left, mut met) = (some, W::none());
+        let zeros = planes.row(y, 0);
+        let mut left = some;
+        let mut met = W::none();
         while left.is_some() {
             let x = left.lowest();
             let place = usize::from(y) * w + x;
             let run = self.row_runs[place];
             left = left.without_lowest();
-            if has_two(ones.both(run)) || must.both(run).is_some() {
+            if is_safe(run, ones, zeros) {
                 left = left.but(run);
-            } else if self.column_runs[place]
-                .but(planes.column(x as u8, 0))
-                .is_some()
-            {
+            } else if is_safe(
+                self.column_runs[place],
+                planes.column(x as u8, 1),
+                planes.column(x as u8, 0),
+            ) {
                 met = met.either(W::one(x));
             } else if !self.visit_lit(planes, puzzle, y, x as u8) {
                 return None;
             }
         }
         Some(met)
-    }
-
-    /// Writes for each of these rows those white cells of it for which two cells of their column run, none of them above, can
-    /// have a bulb, or one must. Only cells of these rows count.
-    pub(crate) fn write_safe(
-        &self,
-        safe: &mut Fixed<W>,
-        planes: &Planes<W>,
-        puzzle: &LightPuzzle,
-        rows: (usize, usize),
-    )
-        requires planes { ArePlanesOf W.room puzzle.now planes.now }
-        requires tables { AreTables W.bits puzzle.now self.now }
-        requires long { puzzle.now.size.h ≤ length safe.old.items }
-        requires order { rows.0 ≤ rows.1 }
-        requires low { rows.1 ≤ puzzle.now.size.h }
-        ensures safe { AreRowsSafe puzzle.now rows.0 rows.1 (map W.bits safe.new.items)
-            (has planes.now) }
-        ensures long { length safe.new.items ≡ length safe.old.items }
-    {
-        let mut one = W::none();
-        let mut two = W::none();
-        let (first, end) = rows;
-        let mut y = end;
-        while y > first {
-            y -= 1;
-            let whites = self.rows[y];
-            let ones = planes.row(y as u8, 1);
-            let must = ones.but(planes.row(y as u8, 0));
-            two = two.either(one.both(ones)).either(must).both(whites);
-            one = one.either(ones).both(whites);
-            safe[y] = two;
-        }
     }
 }

@@ -1,11 +1,11 @@
-use Rattle.fields_core.proofs.Common.{ArePlanesOf, AreSafeInColumns, AreVisited, AreWhitesIdleBut, IsRowOf, ℕ, and_parts, ap, arith, cases_Bool, has, has_bit, houses_below, inl, inr, light_cells, lit_house, lits_of_row, lt-ltb, ltb-true, map, not, or_cases, or_parts, place-in, refl, slice_index, sym, true, true≢false, white, ◌*◌, ◌+◌, ◌<◌, ◌∙◌, ◌≡◌, ◌≤◌}
+use Rattle.fields_core.proofs.Common.{ArePlanesOf, AreSafeInColumns, AreVisited, AreWhitesIdleBut, IsRowOf, ℕ, and_parts, ap, arith, cases_Bool, has, has_bit, houses_below, inl, inr, light_cells, lit_house, lits_of_row, lt-ltb, ltb-true, not, or_cases, or_parts, place-in, refl, sym, true, true≢false, white, ◌*◌, ◌+◌, ◌<◌, ◌∙◌, ◌≡◌, ◌≤◌}
 use Rattle.fields_core.proofs.IdleLemmas.{visited-skip}
 use Rattle.fields_core.proofs.LightRuleLemmas.{light-board}
 use Rattle.fields_core.proofs.LightSafeCells.{joined-down, safe-moved}
 use Rattle.fields_core.proofs.LightReach.{away-from}
 use Rattle.fields_core.proofs.LightRunOrder.{column-white-start}
-use Rattle.fields_core.proofs.LightSweeps.{black-idle, column-safe, lits-are, lits-done, lits-safe, lits-stay, out-idle, planes-full, planes-next, ready-next, row-lits, row-stays, rows-safe}
-use Rattle.fields_core.proofs.CellLemmas.{first-off, row-read, rows-read, second-off}
+use Rattle.fields_core.proofs.LightSweeps.{black-idle, column-safe, lits-are, lits-done, lits-safe, lits-stay, out-idle, planes-full, planes-next, ready-next, row-lits, row-stays}
+use Rattle.fields_core.proofs.CellLemmas.{first-off, rows-read, second-off}
 use Rattle.fields_core.proofs.VisitLemmas.{sweep-broken, sweep-first, sweep-more}
 use Rattle.fields_core.proofs.planes.light_up.light_notes.LightNotes.sweep_cells.Goals as goal
 use Rattle.fields_core.proofs.planes.light_up.light_notes.LightNotes.sweep_cells.Goals.{After-whites-some, After-settle_whites}
@@ -28,23 +28,15 @@ module _ (g : _) (c : After-whites-some g) where
   of-now = planes-next c.requires.ready.planes_of c.loop-y.invariant.visited.further c.loop-y.invariant.visited.alive
 
   -- the cells of the row that are passed
-  pub passed : AreSafeInColumns c.args.puzzle.now c.loop-y.y (g.W.Word.bits c.either-above.result) (has c.loop-y.planes)
+  pub passed : AreSafeInColumns c.args.puzzle.now c.loop-y.y (g.W.Word.bits c.both-above.result) (has c.loop-y.planes)
   passed x on =
-      let p = c.args.puzzle.now in let bits = g.W.Word.bits in
-      let words = c.write_safe.new.safe.items in let of = c.requires.ready.planes_of in
-      elim (or_cases _ _ (sym (c.either-above.ensures x) ∙ on)) [
-        | inl below ↦
-            let read : slice_index (map bits words) c.loop-y.y ≡ bits c.index.result.now = row-read bits words c.loop-y.y c.index.result.now
-            (omega (arith, y-in, of.low, c.requires.ready.safe_long, c.write_safe.ensures.long)) c.index.ensures in
-            rows-safe c.loop-y.y of (omega (arith, y-in)) c.loop-y.invariant.visited
-            (c.write_safe.ensures.safe c.loop-y.y c.loop-y.invariant.first c.loop-y-test.true x (rw read below))
-        | inr both ↦
-            let w = and_parts _ _ (sym (c.both.ensures x) ∙ both) in
-            let own = and_parts _ _ (sym (whites x) ∙ w.1) in let v = c.loop-y.invariant.above x w.0 in
-            let at : c.loop-y.y * p.size.w + x ≡ v.0 * p.size.w + x + p.size.w = rw (sym v.1) (omega arith) in
-            let is_white : white p (c.loop-y.y * p.size.w + x) ≡ true = own.1 in
-            rw at (safe-moved (joined-down p (v.0 * p.size.w + x) (light-board of.lawful).some (column-white-start p (v.0 * p.size.w + x) v.2.one v.2.one_in) (rw at at is_white)) v.2)
-      ]
+      let p = c.args.puzzle.now in
+      let w = and_parts _ _ (sym (c.both-above.ensures x) ∙ on) in
+      let own = and_parts _ _ (sym (whites x) ∙ w.1) in let v = c.loop-y.invariant.above x w.0 in
+      let at : c.loop-y.y * p.size.w + x ≡ v.0 * p.size.w + x + p.size.w = rw (sym v.1) (omega arith) in
+      let is_white : white p (c.loop-y.y * p.size.w + x) ≡ true = own.1 in
+      rw at (safe-moved (joined-down p (v.0 * p.size.w + x) (light-board c.requires.ready.planes_of.lawful).some
+      (column-white-start p (v.0 * p.size.w + x) v.2.one v.2.one_in) (rw at at is_white)) v.2)
 
   -- a cell of the row that is not looked at
   pub idle : AreWhitesIdleBut c.args.puzzle.now (g.W.Word.bits c.whites-some.result) c.loop-y.y (has c.loop-y.planes)
@@ -54,7 +46,7 @@ module _ (g : _) (c : After-whites-some g) where
         lits-stay c.requires.ready.planes_of (omega (arith, y-in)) y-in lt c.loop-y.invariant.visited
         (c.requires.ready.rested.whites (c.loop-y.y * p.size.w + x) (place-in p.size.w p.size.h c.loop-y.y x y-in lt)
         (away-from g.W.Word.bits p _ c.requires.ready.planes_of.lawful y-in lt (λ on. true≢false (sym on ∙ lines.0)) (λ k k_in on column joined. true≢false (sym column ∙ lines.1))))
-    | inr gone ↦ elim (cases_Bool (has_bit (g.W.Word.bits c.either-above.result) x)) [
+    | inr gone ↦ elim (cases_Bool (has_bit (g.W.Word.bits c.both-above.result) x)) [
       | inl on ↦ column-safe _ of-now.lawful (planes-full c.args.puzzle.now c.loop-y.planes of-now.size of-now.alive) (passed x on)
       | inr out ↦ black-idle c.args.puzzle.now _ (has c.loop-y.planes) (sym (whites x ∙ rw (lt-ltb _ _ lt) refl)
           ∙ first-off (ap not out) (sym (c.but.ensures x) ∙ gone))
@@ -63,7 +55,6 @@ module _ (g : _) (c : After-whites-some g) where
 
 pub loop-y-init : goal.loop-y-init
 loop-y-init g c = record {
-  first = omega arith;
   visited = visited-skip (lits_of_row c.args.puzzle.now) (omega arith) (sweep-first (lits_of_row c.args.puzzle.now) c.requires.ready.planes_of.alive)
       (λ k at lt. out-idle c.requires.ready c.reach-rows.ensures k (omega (arith, lt, c.reach-rows.ensures.order, c.reach-rows.ensures.within)) (inl lt));
   above = λ x on. absurd (true≢false (sym on ∙ c.none-above.ensures x));
@@ -82,12 +73,11 @@ pub loop-y-preserved : goal.loop-y-preserved
 loop-y-preserved g c =
     let p = c.args.puzzle.now in let h = (goal.at.loop-y-preserved g c).After-whites-some in
     record {
-      first = omega (arith, c.loop-y.invariant.first);
       visited = sweep-more (lits_of_row p) c.loop-y.invariant.visited c.in-Some.ensures.visited refl;
       above = λ x on. (
         c.loop-y.y,
         refl,
-        elim (or_cases _ _ (sym (c.either-above-in-loop-y.ensures x) ∙ on)) [
+        elim (or_cases _ _ (sym (c.either-above.ensures x) ∙ on)) [
           | inl before ↦ lits-safe (lits_of_row p c.loop-y.y) (row-lits (of-now g h).lawful (y-in g h)) (of-now g h) c.in-Some.ensures.visited (passed g h x before)
           | inr met ↦ c.in-Some.ensures.met x met
         ],
@@ -120,4 +110,4 @@ returns-clause-ready g c = λ _.
     let p = c.args.puzzle.now in let r = c.requires.ready in
     let of = planes-next r.planes_of visited.further visited.alive in
     let rested = c.wake.ensures p c.args.planes.now of r.planes_of (sym c.len-len.ensures.len) visited.further r.rested in
-    ready-next r visited.further visited.alive _ refl c.write_safe.ensures.long (c.settle_whites.ensures p (has c.loop-y.planes) rested (lits-done p r.planes_of visited))
+    ready-next r visited.further visited.alive _ refl (c.settle_whites.ensures p (has c.loop-y.planes) rested (lits-done p r.planes_of visited))

@@ -21,7 +21,7 @@ loop-left-init g c =
       passed = passed-first (numbers_of_row p) r.planes_of.alive (row-on p.size.h _ _ _ all c.both-left.ensures)
           (λ k lt off. r.rested.numbers k lt (row-off p.size.h _ _ _ all c.both-left.ensures lt off));
       ready = r;
-      kept = record { tables = refl; safe = refl };
+      kept = refl;
     }
 
 -- the rows that wait then
@@ -46,9 +46,9 @@ loop-left-preserved-then-len g c =
       passed = passed-next (numbers_of_row p) passed least visited c.if-not-visit_numbers.false _
           (λ k on. let w = rest-on least without k on in (w.0, passed.inside k w.1))
           (λ k high lt off. rw same (passed.idle k (omega (arith, high, passed.behind c.lowest-y.result least.has)) lt (rest-off least without high off)));
-      ready = ready-next i.ready visited.further visited.alive _ refl refl
+      ready = ready-next i.ready visited.further visited.alive _ refl
           (c.settle_numbers.ensures p (has c.visit_numbers.new.planes) i.ready.planes_of.low rested (rw (← same) at (sym (visited.left c.if-not-visit_numbers.false))));
-      kept = record { tables = i.kept.tables; safe = i.kept.safe };
+      kept = i.kept;
     }
 
 pub loop-left-smaller : goal.loop-left-smaller
@@ -65,8 +65,8 @@ loop-left-preserved g c =
           (λ k on. let w = behind g a k on in (w.0, row-on p.size.h _ _ _ (rows g a) c.both.ensures k w.1))
           (λ k high lt off. rested.numbers k lt (row-off p.size.h _ _ _ (rows g a) c.both.ensures lt
           (from-off (has_bit (g.W.Word.bits c.both.result)) _ _ c.lowest-y.result c.all.ensures c.but-left.ensures high off)));
-      ready = ready-next i.ready visited.further visited.alive _ refl refl rested;
-      kept = record { tables = i.kept.tables; safe = i.kept.safe };
+      ready = ready-next i.ready visited.further visited.alive _ refl rested;
+      kept = i.kept;
     }
 
 pub returns-then-not-visit_numbers-clause-visited : goal.returns-then-not-visit_numbers-clause-visited

@@ -58,4 +58,4 @@ returns-clause-ready g c = λ _.
     let p = c.args.puzzle.now in let r = c.requires.ready in
     let of = planes-next r.planes_of visited.further visited.alive in
     let rested = c.wake.ensures p c.args.planes.now of r.planes_of (sym c.len-len.ensures.len) visited.further r.rested in
-    ready-next r visited.further visited.alive _ refl refl (c.settle_runs.ensures p (has c.loop-left.planes) rested (runs-done p c.args.kind r.planes_of visited))
+    ready-next r visited.further visited.alive _ refl (c.settle_runs.ensures p (has c.loop-left.planes) rested (runs-done p c.args.kind r.planes_of visited))

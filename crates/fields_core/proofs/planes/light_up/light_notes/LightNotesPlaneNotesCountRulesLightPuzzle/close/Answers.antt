@@ -8,7 +8,6 @@ pub close-requires-clause-ready : goal.close-requires-clause-ready
 close-requires-clause-ready g c = record {
   planes_of = planes-of c.requires.written.lawful c.requires.board;
   tables = c.requires.written.tables;
-  safe_long = c.requires.fits.safe;
   rested = c.begin-self.ensures;
 }
 
@@ -16,6 +15,6 @@ pub returns-clause-kept : goal.returns-clause-kept
 returns-clause-kept g c =
     let kept = c.close.ensures.kept in
     record {
-      serves = λ needs room. kept.serves needs (record { tables = room.tables; safe = room.safe });
+      serves = λ needs room. kept.serves needs room;
       own = λ rules own. kept.own rules.puzzle (record { lawful = own.lawful; tables = own.tables });
     }

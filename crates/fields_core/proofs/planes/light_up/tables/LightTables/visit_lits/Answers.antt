@@ -1,9 +1,10 @@
-use Rattle.fields_core.proofs.Common.{AreIdle, ArePlanesOf, AreSafe, CountHouse, IsColumnRun, IsRowRun, List, and-true, and_parts, arith, cases_Bool, eqb, eqb-true, false, has, has_bit, inl, inr, joined_in_column, joined_in_row, lit_house, ltb-true, not, or_cases, refl, sym, true, true≢false, ℕ, ◌&&◌, ◌*◌, ◌+◌, ◌<◌, ◌∙◌, ◌≡◌}
+use Rattle.fields_core.proofs.Common.{AreIdle, ArePlanesOf, AreSafe, CountHouse, IsColumnRun, IsRowRun, List, and-true, and_parts, arith, cases_Bool, eqb, eqb-true, false, has, has_bit, inl, inr, joined_in_column, joined_in_row, light_cells, lit_house, not, or_cases, refl, sym, true, true≢false, ℕ, ◌&&◌, ◌*◌, ◌+◌, ◌<◌, ◌∙◌, ◌≡◌}
 use Rattle.fields_core.proofs.IdleLemmas.{fewer-on, passed-all, passed-broken, passed-first, passed-next, rest-off, rest-on, visited-idle}
-use Rattle.fields_core.proofs.LightSafeCells.{column-must, row-moved, row-must, row-two, table-read}
+use Rattle.fields_core.proofs.LightSafeCells.{column-line, row-line, row-moved, table-read}
 use Rattle.fields_core.proofs.LightSweeps.{column-safe, lit-all, lit-kept, lit-stays, lits-safe, planes-full, planes-next, row-safe}
+use Rattle.fields_core.proofs.VisitLemmas.{IsBinaryAlive}
 use Rattle.fields_core.proofs.planes.light_up.tables.LightTables.visit_lits.Goals as goal
-use Rattle.fields_core.proofs.planes.light_up.tables.LightTables.visit_lits.Goals.{After-either-met, After-without_lowest-left, Joined-has_two, then-has_two, else-has_two}
+use Rattle.fields_core.proofs.planes.light_up.tables.LightTables.visit_lits.Goals.{After-either-met, After-is_safe, After-without_lowest-left}
 
 module _ (g : _) (c : After-without_lowest-left g) where
   abbrev houses : ℕ → List CountHouse
@@ -32,7 +33,7 @@ module _ (g : _) (c : After-without_lowest-left g) where
       let passed = c.loop-ones.invariant.passed in
       lit-stays c.requires.planes passed.line_in c.requires.y_in lt passed.visited idle
 
-module _ (g : _) (c : Joined-has_two g) (x_in : c.lowest-x.result < c.args.puzzle.now.size.w) where
+module _ (g : _) (c : After-is_safe g) (x_in : c.lowest-x.result < c.args.puzzle.now.size.w) where
   run-is : IsRowRun c.args.puzzle.now (c.args.y * c.args.puzzle.now.size.w + c.lowest-x.result) (g.W.Word.bits c.index-run.result.now)
   run-is =
       let p = c.args.puzzle.now in
@@ -40,27 +41,21 @@ module _ (g : _) (c : Joined-has_two g) (x_in : c.lowest-x.result < c.args.puzzl
       c.requires.y_in x_in (rw (c.from.ensures, c.columns-w.ensures.value) refl) c.index-run.ensures
 
   -- where the run is passed, the houses of its cells are idle
-  safe : c.if-has_two.value ≡ true → AreSafe (joined_in_row c.args.puzzle.now (c.args.y * c.args.puzzle.now.size.w + c.lowest-x.result)) (has c.args.planes.now)
-  safe on =
-      let p = c.args.puzzle.now in let run = g.W.Word.bits c.index-run.result.now in
-      elim c.if-has_two.branch [
-        | then-has_two w ↦ row-two p c.args.y c.lowest-x.result x_in run run-is c.args.planes.now (g.W.Word.bits c.both.result) g.W.Word.room c.requires.planes.size
-            (λ k. c.both.ensures k ∙ rw (c.row-ones.ensures.cells k) refl) (ltb-true _ _ (sym c.has_two.ensures ∙ w.if-has_two.true))
-        | else-has_two w ↦ row-must p c.args.y c.lowest-x.result x_in run run-is c.args.planes.now (g.W.Word.bits w.both-else-has_two.result) g.W.Word.room c.requires.planes.size
-            (λ k. w.both-else-has_two.ensures k ∙ rw (c.but-must.ensures k, c.row-ones.ensures.cells k, c.row.ensures.cells k) refl) (sym w.is_some-else-has_two.ensures ∙ sym w.value-is ∙ on)
-      ]
+  safe : c.is_safe.result ≡ true → AreSafe (joined_in_row c.args.puzzle.now (c.args.y * c.args.puzzle.now.size.w + c.lowest-x.result)) (has c.args.planes.now)
+  safe on = row-line c.args.puzzle.now c.args.y c.lowest-x.result x_in c.args.planes.now c.requires.planes.size _ _ _ (c.is_safe.ensures on) run-is
+      c.row-zeros.ensures.cells c.row-ones.ensures.cells
 
-  pub run-idle : c.if-has_two.value ≡ true → {k : ℕ} → k < c.args.puzzle.now.size.w → has_bit (g.W.Word.bits c.index-run.result.now) k ≡ true
+  full : IsBinaryAlive (light_cells c.args.puzzle.now) (has c.args.planes.now)
+  full = planes-full c.args.puzzle.now c.args.planes.now c.requires.planes.size c.requires.planes.alive
+
+  pub run-idle : c.is_safe.result ≡ true → (k : ℕ) → has_bit (g.W.Word.bits c.index-run.result.now) k ≡ true
       → AreIdle (lit_house c.args.puzzle.now (c.args.y * c.args.puzzle.now.size.w + k)) (has c.args.planes.now)
-  run-idle on {k} lt there =
+  run-idle on k there =
       let p = c.args.puzzle.now in
-      row-safe (c.args.y * p.size.w + k) c.requires.planes.lawful (planes-full p c.args.planes.now c.requires.planes.size c.requires.planes.alive)
-      (row-moved p c.args.y k x_in (g.W.Word.bits c.index-run.result.now) run-is there (safe on))
+      row-safe (c.args.y * p.size.w + k) c.requires.planes.lawful full (row-moved p c.args.y k x_in (g.W.Word.bits c.index-run.result.now) run-is there (safe on))
 
-  pub own-idle : c.if-has_two.value ≡ true → AreIdle (lit_house c.args.puzzle.now (c.args.y * c.args.puzzle.now.size.w + c.lowest-x.result)) (has c.args.planes.now)
-  own-idle on =
-      let p = c.args.puzzle.now in
-      row-safe (c.args.y * p.size.w + c.lowest-x.result) c.requires.planes.lawful (planes-full p c.args.planes.now c.requires.planes.size c.requires.planes.alive) (safe on)
+  pub own-idle : c.is_safe.result ≡ true → AreIdle (lit_house c.args.puzzle.now (c.args.y * c.args.puzzle.now.size.w + c.lowest-x.result)) (has c.args.planes.now)
+  own-idle on = row-safe (c.args.y * c.args.puzzle.now.size.w + c.lowest-x.result) c.requires.planes.lawful full (safe on)
 
 pub loop-ones-init : goal.loop-ones-init
 loop-ones-init g c = record {
@@ -71,30 +66,30 @@ loop-ones-init g c = record {
 pub visit_lit-requires-clause-planes : goal.visit_lit-requires-clause-planes
 visit_lit-requires-clause-planes g c = let v = c.loop-ones.invariant.passed.visited in planes-next c.requires.planes v.further v.alive
 
-pub loop-ones-smaller-then-is_some : goal.loop-ones-smaller-then-is_some
-loop-ones-smaller-then-is_some g c =
-    let h = (goal.at.loop-ones-smaller-then-is_some g c).After-without_lowest-left in
+pub loop-ones-smaller-then-is_safe : goal.loop-ones-smaller-then-is_safe
+loop-ones-smaller-then-is_safe g c =
+    let h = (goal.at.loop-ones-smaller-then-is_safe g c).After-without_lowest-left in
     fewer-on c.lowest-x.ensures (λ k there. (on g h k (and_parts _ _ (sym (c.but-left.ensures k) ∙ there)).0).0)
 
-pub loop-ones-preserved-then-is_some : goal.loop-ones-preserved-then-is_some
-loop-ones-preserved-then-is_some g c =
-    let h = (goal.at.loop-ones-preserved-then-is_some g c).After-without_lowest-left in
-    let j = (goal.at.loop-ones-preserved-then-is_some g c).Joined-has_two in let lt = x-in g h in
+pub loop-ones-preserved-then-is_safe : goal.loop-ones-preserved-then-is_safe
+loop-ones-preserved-then-is_safe g c =
+    let h = (goal.at.loop-ones-preserved-then-is_safe g c).After-without_lowest-left in
+    let a = (goal.at.loop-ones-preserved-then-is_safe g c).After-is_safe in let lt = x-in g h in
     let passed = c.loop-ones.invariant.passed in
     record {
       passed = passed-next (houses g h) passed c.lowest-x.ensures
-          (visited-idle (houses g h c.lowest-x.result) passed.visited.alive (still g h c.lowest-x.result lt (own-idle g j lt c.if-is_some.true))) refl _
+          (visited-idle (houses g h c.lowest-x.result) passed.visited.alive (still g h c.lowest-x.result lt (own-idle g a lt c.if-is_safe.true))) refl _
           (λ k there. on g h k (and_parts _ _ (sym (c.but-left.ensures k) ∙ there)).0)
           (λ k high less gone. elim (cases_Bool (has_bit (g.W.Word.bits c.index-run.result.now) k)) [
-            | inl there ↦ still g h k less (run-idle g j lt c.if-is_some.true less there)
+            | inl there ↦ still g h k less (run-idle g a lt c.if-is_safe.true k there)
             | inr out ↦ off g h k high less (sym (c.but-left.ensures k ∙ rw out (and-true _)) ∙ gone)
           ]);
       met = c.loop-ones.invariant.met;
     }
 
-pub loop-ones-smaller-then-is_some-2 : goal.loop-ones-smaller-then-is_some-2
-loop-ones-smaller-then-is_some-2 g c =
-    let h = (goal.at.loop-ones-smaller-then-is_some-2 g c).After-without_lowest-left in
+pub loop-ones-smaller-then-is_safe-2 : goal.loop-ones-smaller-then-is_safe-2
+loop-ones-smaller-then-is_safe-2 g c =
+    let h = (goal.at.loop-ones-smaller-then-is_safe-2 g c).After-without_lowest-left in
     fewer-on c.lowest-x.ensures (λ k there. (on g h k there).0)
 
 pub loop-ones-smaller : goal.loop-ones-smaller
@@ -102,19 +97,18 @@ loop-ones-smaller g c =
     let h = (goal.at.loop-ones-smaller g c).After-without_lowest-left in
     fewer-on c.lowest-x.ensures (λ k there. (on g h k there).0)
 
--- its column run has a cell that must have a bulb
+-- two cells of its column run can have a bulb, or one must
 column : (g : _) (c : After-either-met g) → c.lowest-x.result < c.args.puzzle.now.size.w → ArePlanesOf g.W.Word.room c.args.puzzle.now c.loop-ones.planes
     → AreSafe (joined_in_column c.args.puzzle.now (c.args.y * c.args.puzzle.now.size.w + c.lowest-x.result)) (has c.loop-ones.planes)
 column g c lt planes =
-    let p = c.args.puzzle.now in let x = c.lowest-x.result in
-    let bits = g.W.Word.bits in
-    column-must p c.args.y x lt _ (table-read bits p (IsColumnRun p) c.args.self.now.column_runs.items _ c.requires.tables.runs.long_columns c.requires.tables.runs.in_column
-    c.requires.y_in lt (rw (c.from.ensures, c.columns-w.ensures.value) refl) c.index.ensures) c.loop-ones.planes (bits c.but.result) g.W.Word.room planes.size
-    (planes-full p c.loop-ones.planes planes.size planes.alive) (λ k. c.but.ensures k ∙ rw (c.column.ensures.cells k) refl) (sym c.is_some-else-is_some.ensures ∙ c.if-is_some-2.true)
+    let p = c.args.puzzle.now in
+    column-line p c.args.y c.lowest-x.result lt c.loop-ones.planes planes.size _ _ _ (c.is_safe-else-is_safe.ensures c.if-is_safe-2.true)
+    (table-read g.W.Word.bits p (IsColumnRun p) c.args.self.now.column_runs.items _ c.requires.tables.runs.long_columns c.requires.tables.runs.in_column
+    c.requires.y_in lt (rw (c.from.ensures, c.columns-w.ensures.value) refl) c.index.ensures) c.column-else-is_safe.ensures.cells c.column.ensures.cells
 
-pub loop-ones-preserved-then-is_some-2 : goal.loop-ones-preserved-then-is_some-2
-loop-ones-preserved-then-is_some-2 g c =
-    let at = goal.at.loop-ones-preserved-then-is_some-2 g c in
+pub loop-ones-preserved-then-is_safe-2 : goal.loop-ones-preserved-then-is_safe-2
+loop-ones-preserved-then-is_safe-2 g c =
+    let at = goal.at.loop-ones-preserved-then-is_safe-2 g c in
     let h = at.After-without_lowest-left in let p = c.args.puzzle.now in
     let safe = column g at.After-either-met (x-in g h) (of g h) in let passed = c.loop-ones.invariant.passed in
     record {
