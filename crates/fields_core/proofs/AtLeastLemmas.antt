@@ -1,5 +1,5 @@
 -- Houses of one at least, by the cells of theirs that can be ones.
-use Rattle.fields_core.proofs.Common.{AllByRecursion, AreIdle, Bool, Candidates, CountHouse, IsHouse, IsInside, IsTally, List, Tally, [], after_house, after_houses, and-true, and_parts, ap, arith, cases_Bool, cases_eq, cases_lt, common_steps, cond, count_by, count_by-le-length, eqb, eqb-true, false, false_from_ne_true, fun_ext, has_place, has_place-at, inl, inr, is_empty, le-ltb, length, ltb, ne_eqb, not, one_at_least, or_cases, or_left, or_right, refl, strikes_of, suc, sym, true, true≢false, without_zeros, zero, ℕ, ◌&&◌, ◌<◌, ◌||◌, ◌∙◌, ◌∷◌, ◌≡◌, ◌≢◌, ◌≤◌, ◌⊎◌}
+use Rattle.fields_core.proofs.Common.{AllByRecursion, AreIdle, Bool, Candidates, CountHouse, IsHouse, IsInside, IsTally, List, Tally, [], after_house, after_visits, and-true, and_parts, ap, arith, cases_Bool, cases_eq, cases_lt, common_steps, cond, count_by, count_by-le-length, eqb, eqb-true, false, false_from_ne_true, fun_ext, has_place, has_place-at, inl, inr, is_empty, le-ltb, length, ltb, ne_eqb, not, one_at_least, or_cases, or_left, or_right, refl, strikes_of, suc, sym, true, true≢false, without_zeros, zero, ℕ, ◌&&◌, ◌<◌, ◌||◌, ◌∙◌, ◌∷◌, ◌≡◌, ◌≢◌, ◌≤◌, ◌⊎◌}
 use Rattle.fields_core.proofs.VisitLemmas.{IsBinaryAlive, after-inside, others-stay, visits-inside}
 use Rattle.fields_core.proofs.IdleLemmas.{KeepsIdle, any_has, full-between, idle-first, idle-rest}
 use Rattle.fields_core.proofs.PlaceLists.{count-cons, count-none, count-some, count-two, num, num-most}
@@ -183,14 +183,14 @@ pub record IsAll (cells : ℕ) (house : CountHouse) : Type 0 where
 pub alls-kept : (cells : ℕ) (houses : List CountHouse) (K L : Candidates) → AllByRecursion (IsAll cells) houses
     → IsBinaryAlive cells K → IsBinaryAlive cells L → IsInside L K → ((c : ℕ) → any_has houses c ≡ true → L c 1 ≡ K c 1)
     → AreIdle houses K → AreIdle houses L
-unfolding after_houses any_has
+unfolding after_visits any_has
 alls-kept cells [] K L each full_K full_L inside ones idle = refl
 alls-kept cells (house ∷ houses) K L (is, each) full_K full_L inside ones idle = grind (arith, common_steps, idle-first, idle-kept, or_left, or_right, idle-rest, alls-kept cells houses K L each full_K full_L inside (λ c there. ones c (or_right _ _ there)))
 
 -- visits that leave each cell a value take no 1
 pub alls-ones : (cells : ℕ) (houses : List CountHouse) (K : Candidates) → AllByRecursion (IsAll cells) houses → IsBinaryAlive cells K
-    → IsBinaryAlive cells (after_houses houses K) → (c : ℕ) → after_houses houses K c 1 ≡ K c 1
-unfolding after_houses
+    → IsBinaryAlive cells (after_visits houses K) → (c : ℕ) → after_visits houses K c 1 ≡ K c 1
+unfolding after_visits
 alls-ones cells [] K each full after c = refl
 alls-ones cells (house ∷ houses) K (is, each) full after c =
     let next = full-between full after (after-inside house K) (visits-inside houses (after_house house K)) in
@@ -199,7 +199,7 @@ alls-ones cells (house ∷ houses) K (is, each) full after c =
 
 -- so others stay idle
 pub all-keeps : (cells : ℕ) (visited house : CountHouse) → IsAll cells visited → IsAll cells house → KeepsIdle cells visited house
-unfolding after_houses
+unfolding after_visits
 all-keeps cells visited house is other K full still idle =
     rw other.same (idle-kept K (after_house visited K) other.is full still (after-inside visited K)
     (λ c _. alls-ones cells (visited ∷ []) K (is, tt) full still c) (rw other.same at idle))

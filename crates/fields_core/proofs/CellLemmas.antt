@@ -1,5 +1,5 @@
 -- Pieces of lines, words of rows, and the cells that they have.
-use Rattle.fields_core.proofs.Common.{AreDistinct, AreRowsOf, Bool, Column, Extent, IsHouse, IsHouseOf, IsRowOf, Layers, Line, List, Row, ℕ, [], and-false, and_from, and_parts, any_below, ap, arith, at_line, bit_of, cases_Bool, cases_eq, cases_lt, column_places, common_steps, cond, count_below, count_below-none, count_below-same, count_by, crosses, div-add-mod', div-mul-add, eq-eqb, eqb, eqb-true, exactly, false, false_from_ne_true, get_or, get_or-map, get_or-map-range_with_len, get_or-set_other, get_or-set_same, has, has_bit, has_place, has_place-at, has_place-here, inl, inr, le-ltb, length, length-map, length-map-range_with_len, lies_in, lies_in_first, line_len, lines_beside, list_any-append, lt-ltb, ltb, ltb-true, map, map-set, mod-lt, ne_eqb, number_of, or-false, or-true, place-column, range_with_len, refl, row_places, set, slice_index, suc, sum_by-cons, sym, true, true≢false, zero, ◌%◌, ◌&&◌, ◌*◌, ◌++◌, ◌+◌, ◌/◌, ◌<◌, ◌||◌, ◌∙◌, ◌∷◌, ◌≡◌, ◌≢◌, ◌≤◌, ◌⊎◌}
+use Rattle.fields_core.proofs.Common.{AreDistinct, AreRowsOf, Bool, Column, Extent, IsHouse, IsHouseOfPieces, IsRowOf, Layers, Line, List, Row, ℕ, [], and-false, and_from, and_parts, any_below, ap, arith, at_line, bit_of, cases_Bool, cases_eq, cases_lt, column_places, common_steps, cond, count_below, count_below-none, count_below-same, count_by, crosses, div-add-mod', div-mul-add, eq-eqb, eqb, eqb-true, exactly, false, false_from_ne_true, get_or, get_or-map, get_or-map-range_with_len, get_or-set_other, get_or-set_same, has, has_bit, has_place, has_place-at, has_place-here, inl, inr, le-ltb, length, length-map, length-map-range_with_len, lies_in, lies_in_first, line_len, lines_beside, list_any-append, lt-ltb, ltb, ltb-true, map, map-set, mod-lt, ne_eqb, number_of, or-false, or-true, place-column, range_with_len, refl, row_places, set, slice_index, suc, sum_by-cons, sym, true, true≢false, zero, ◌%◌, ◌&&◌, ◌*◌, ◌++◌, ◌+◌, ◌/◌, ◌<◌, ◌||◌, ◌∙◌, ◌∷◌, ◌≡◌, ◌≢◌, ◌≤◌, ◌⊎◌}
 
 -- Pieces of lines, and the cells that they have.
 
@@ -31,13 +31,13 @@ line-has cell n c k from to = same-truth _ _ (λ there. let w = place-on cell n 
 
 -- a line as a piece
 line-house : (size : Extent) {line : Line} {bits ones : ℕ} {places : List ℕ} → ((c : ℕ) → has_place places c ≡ crosses line bits (c / size.w) (c % size.w))
-    → IsHouse (size.w * size.h) (exactly ones places) → IsHouseOf size (record { line = line; bits = bits } ∷ []) ones ones (exactly ones places)
+    → IsHouse (size.w * size.h) (exactly ones places) → IsHouseOfPieces size (record { line = line; bits = bits } ∷ []) ones ones (exactly ones places)
 unfolding lies_in_first any_below lies_in
 line-house size cells house = record { is = house; least_is = refl; most_is = refl; cells = cells }
 
 pub column-house : (size : Extent) {x : ℕ} (bits ones : ℕ) → x < size.w → ((k : ℕ) → has_bit bits k ≡ ltb k size.h)
     → IsHouse (size.w * size.h) (exactly ones (column_places size x))
-    → IsHouseOf size (record { line = Column x; bits = bits } ∷ []) ones ones (exactly ones (column_places size x))
+    → IsHouseOfPieces size (record { line = Column x; bits = bits } ∷ []) ones ones (exactly ones (column_places size x))
 unfolding crosses
 column-house size {x} bits ones lt is house = line-house size (λ c. line-has (λ y. y * size.w + x) size.h c (c / size.w)
     (λ on. let w = and_parts _ _ on in (ltb-true _ _ (sym (is (c / size.w)) ∙ w.1), rw (← eqb-true (c % size.w) x w.0) (div-add-mod' c size.w)))
@@ -45,7 +45,7 @@ column-house size {x} bits ones lt is house = line-house size (λ c. line-has (�
 
 pub row-house : (size : Extent) (y bits ones : ℕ) → 0 < size.w → ((k : ℕ) → k < size.w → has_bit bits k ≡ true)
     → IsHouse (size.w * size.h) (exactly ones (row_places size y))
-    → IsHouseOf size (record { line = Row y; bits = bits } ∷ []) ones ones (exactly ones (row_places size y))
+    → IsHouseOfPieces size (record { line = Row y; bits = bits } ∷ []) ones ones (exactly ones (row_places size y))
 unfolding crosses
 row-house size y bits ones pos is house = line-house size (λ c. line-has (λ x. y * size.w + x) size.w c (c % size.w)
     (λ on. let w = and_parts _ _ on in (mod-lt c pos, rw (← eqb-true (c / size.w) y w.0) (div-add-mod' c size.w)))

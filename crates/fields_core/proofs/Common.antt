@@ -67,7 +67,7 @@ pub use Rattle.engine_core.specs.declared.mode.Closing.TheVariants.{Dead, Open}
 pub use Rattle.fields_core.specs.Count.{counts_between, is_empty, is_open, nonzeros}
 pub use Rattle.fields_core.specs.CountHouse.{AreHouses, AreMet, CountHouse, CountPuzzle, IsCounting, IsHouse, count_house_of, count_puzzle, exactly}
 pub use Rattle.fields_core.specs.CountHouse.{no_count_house, one_at_least, one_at_most, rules_of}
-unfoldable pub use Rattle.fields_core.specs.CountHouse.{after_house, houses_below, meets, start_of, strikes_of}
+unfoldable pub use Rattle.fields_core.specs.CountHouse.{after_house, houses_below, meets_house, start_of, strikes_of}
 pub use Rattle.fields_core.specs.CountLaws.{count-lawful}
 pub use Rattle.fields_core.specs.Houses.{AreAdded, AreNamed, TestsBelow, bounds_of, house_told, named, places_of, segment_places, sized}
 pub use Rattle.fields_core.specs.Light.{bulb, bulbs_beside, is_white, light_cells, number_is}
@@ -79,20 +79,20 @@ unfoldable pub use Rattle.fields_core.specs.LightHouses.{begins_column_run, begi
 pub use Rattle.fields_core.specs.LightRuns.{asks, lonely}
 pub use Rattle.fields_core.specs.LightPlanes.{ArePlanesOf}
 pub use Rattle.fields_core.specs.LightRunLines.{AreAround, AreRunsOf, IsClash, IsRunOf, column_runs_of_column}
-pub use Rattle.fields_core.specs.LightRuns.{AreFilled, AreWritten, IsRunAt}
+pub use Rattle.fields_core.specs.LightRuns.{AreWordsFilled, AreWordsWritten, IsRunAt}
 pub use Rattle.fields_core.specs.LightRuns.{IsAround, IsLatest, begins_at, line_cells, line_white, run_house}
 pub use Rattle.fields_core.specs.LightRuns.{RunsBack, RunsOn, SeesAlong, ShinesAlong}
 pub use Rattle.fields_core.specs.LightSolutions.{AreJoined, IsFromTo, IsLightSolution, Sees, SeesBulb, light_column, light_row}
-pub use Rattle.fields_core.specs.LightWaits.{AreColumnsParted, AreIdleBut, AreLightsReady, AreLinesRested, AreLinesWoken, AreParted, AreSafe}
+pub use Rattle.fields_core.specs.LightWaits.{AreColumnsParted, AreIdleBut, AreLightsReady, AreLightsRested, AreLightsWoken, AreParted, AreSafe}
 pub use Rattle.fields_core.specs.LightWaits.{AreSafeInColumns, AreWhitesIdleBut, IsAway, IsReach, line_board, lits_of_row, run_houses, run_lines, waiting_runs}
 pub use Rattle.fields_core.specs.LightWaits.{white_houses}
 pub use Rattle.fields_core.specs.LightPlanes.{IsColumnRun, IsRowRun, has_number, numbers_of_row, row_runs_of_row}
 unfoldable pub use Rattle.fields_core.specs.LightPlanes.{is_numbered}
 pub use Rattle.fields_core.specs.LineWords.{AreRowsOf, AreSpread, IsColumnOf, IsRowIn, IsRowOf}
-pub use Rattle.fields_core.specs.Parts.{ArePartsCounted, ArePieces, ArePlanesAlive, IsBroken, IsCount, IsHouseOf, Piece, piece_at, pieces_of}
+pub use Rattle.fields_core.specs.Parts.{ArePartsCounted, ArePieces, ArePlanesAlive, IsBroken, IsCount, IsHouseOfPieces, Piece, piece_at, pieces_of}
 unfoldable pub use Rattle.fields_core.specs.Parts.{lies_in, lies_in_first, without_value}
 pub use Rattle.fields_core.specs.Sweeps.{IsSweep, swept_by}
-pub use Rattle.fields_core.specs.Count.{IsTally, stays}
+pub use Rattle.fields_core.specs.Count.{IsTally, value_stays}
 pub use Rattle.fields_core.specs.TentSolutions.{FailsTents, IsTentFault, tent_tests}
 pub use Rattle.fields_core.specs.TentHouses.{column_of_tents, free_beside, row_of_tents, square_house, tent_counts, tent_house, tent_rules, tree_house}
 unfoldable pub use Rattle.fields_core.specs.TentHouses.{is_barred, tent_houses}
@@ -108,7 +108,7 @@ pub use Rattle.fields_core.specs.TentWaits.{AreTentsRested, AreTentsWoken, all_o
 pub use Rattle.fields_core.specs.Tents.{are_near, leaves_none_out, names_none_twice, tent, tent_cells, tree, trees_beside}
 unfoldable pub use Rattle.fields_core.specs.Tents.{can_be_paired, column_right, row_right, solves_tents, touch_right, touches, tree_right}
 pub use Rattle.fields_core.specs.Visits.{AreIdle, AreVisited}
-unfoldable pub use Rattle.fields_core.specs.Visits.{after_houses, without_zeros}
+unfoldable pub use Rattle.fields_core.specs.Visits.{after_visits, without_zeros}
 pub use Rattle.fields_core.specs.declared.count.house.Segment.{Segment}
 pub use Rattle.fields_core.specs.declared.count.name.HouseName.{HouseName}
 pub use Rattle.fields_core.specs.declared.count.tally.Tally.{Tally}
@@ -116,4 +116,4 @@ pub use Rattle.fields_core.specs.declared.light_up.fault.LightFault.{LightFault}
 pub use Rattle.fields_core.specs.declared.light_up.light_house.LightHouse.{LightHouse}
 pub use Rattle.fields_core.specs.declared.planes.light_up.waits.RunKind.{RunKind}
 pub use Rattle.fields_core.specs.declared.planes.tents.waits.Kind.TheVariants.{Columns, Rows, Squares, Trees}
-pub use Rattle.fields_core.specs.declared.planes.tents.waits.Waits.{Waits}
+pub use Rattle.fields_core.specs.declared.planes.tents.waits.TentWaits.{TentWaits}

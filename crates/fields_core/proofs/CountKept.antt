@@ -1,5 +1,5 @@
 -- Which numbers of ones the fillings of a house have, and what a visit leaves of it.
-use Rattle.fields_core.proofs.Common.{AreDifferent, Bool, Candidates, CountHouse, Fills, Fills-cons, Fills-tail, IsHouse, IsShown, IsTally, IsWithin, Layout, List, Tally, [], add-one, after_house, and-true, and_from, and_parts, ap, arith, bounds_of, cases_Bool, cases_eq, cases_lt, common_steps, cond, count_by, counts_between, distinct-from, eq-eqb, eqb, false, false_from_ne_true, fun_ext, get_or, has_bit, has_place, has_place-at, has_place-here, inl, inr, is_empty, is_open, le-leb, le-ltb, leb-true, length, length-sets_at, longest, ltb-false, max, ne_eqb, nonzeros, not, not-true, not_taken, or_parts, refl, sets_at, sets_at-small, sets_at-value, shown_from_test, slice_index, stays, strikes_at-in_scope, strikes_at-place, strikes_by_fillings, strikes_of, suc, sym, take, taken-here, taken-other, test_from_shown, true, true≢false, zero, ℕ, ◌&&◌, ◌*◌, ◌+◌, ◌-◌, ◌<◌, ◌||◌, ◌∙◌, ◌∷◌, ◌≡◌, ◌≤◌, ◌⊎◌}
+use Rattle.fields_core.proofs.Common.{AreDifferent, Bool, Candidates, CountHouse, Fills, Fills-cons, Fills-tail, IsHouse, IsShown, IsTally, IsWithin, Layout, List, Tally, [], add-one, after_house, and-true, and_from, and_parts, ap, arith, bounds_of, cases_Bool, cases_eq, cases_lt, common_steps, cond, count_by, counts_between, distinct-from, eq-eqb, eqb, false, false_from_ne_true, fun_ext, get_or, has_bit, has_place, has_place-at, has_place-here, inl, inr, is_empty, is_open, le-leb, le-ltb, leb-true, length, length-sets_at, longest, ltb-false, max, ne_eqb, nonzeros, not, not-true, not_taken, or_parts, refl, sets_at, sets_at-small, sets_at-value, shown_from_test, slice_index, value_stays, strikes_at-in_scope, strikes_at-place, strikes_by_fillings, strikes_of, suc, sym, take, taken-here, taken-other, test_from_shown, true, true≢false, zero, ℕ, ◌&&◌, ◌*◌, ◌+◌, ◌-◌, ◌<◌, ◌||◌, ◌∙◌, ◌∷◌, ◌≡◌, ◌≤◌, ◌⊎◌}
 use Rattle.fields_core.proofs.PlaceLists.{count-at, count-cons, count-none, count-some, num, num-most}
 use Rattle.fields_core.proofs.CellLemmas.{same-truth}
 use Rattle.grid_core.specs.Board.{cells_of, has}
@@ -223,7 +223,7 @@ module _ (cells : ℕ) (house : CountHouse) (K : Candidates) (t : Tally) (is : I
   Shown k v = IsShown (counts_between house.least house.most) (sets_at 2 house.places K) k v
 
   -- a value that a filling has stays, and the other way round
-  shown-stays : {k v : ℕ} → k < length house.places → v < 2 → K (at k) v ≡ true → Shown k v → stays t (bounds_of house) (is_open K (at k)) v ≡ true
+  shown-stays : {k v : ℕ} → k < length house.places → v < 2 → K (at k) v ≡ true → Shown k v → value_stays t (bounds_of house) (is_open K (at k)) v ≡ true
   shown-stays {k} {v} lt low on (f, s) =
       let b = shown-bounds K house.places k v is.different lt low on house.least house.most (f, s) in
       let w = reached {least = house.least} {most = house.most} {must = t.must} {may = t.may} v (K (at k) 0) (K (at k) 1) low (by-value K (at k) low on) (omega (arith, b.1, tally.may_is)) (omega (arith, b.2, tally.must_is)) in
@@ -232,10 +232,10 @@ module _ (cells : ℕ) (house : CountHouse) (K : Candidates) (t : Tally) (is : I
       not-empty K (at j.0) u.0 u.1 (rw j.2 gone))) in
       rw (none, le-ltb _ _ b.0, le-ltb _ _ w.0, le-ltb _ _ w.1, w.2) refl
 
-  stays-shown : {k v : ℕ} → k < length house.places → v < 2 → K (at k) v ≡ true → stays t (bounds_of house) (is_open K (at k)) v ≡ true → Shown k v
+  stays-shown : {k v : ℕ} → k < length house.places → v < 2 → K (at k) v ≡ true → value_stays t (bounds_of house) (is_open K (at k)) v ≡ true → Shown k v
   stays-shown {k} {v} lt low on stay = grind (arith, common_steps, and_parts, or_parts, not-true, ltb-false, by-value, bounds-shown)
 
-  pub stays-at : {k v : ℕ} → k < length house.places → v < 2 → (K (at k) v && not (struck k v)) ≡ (K (at k) v && stays t (bounds_of house) (is_open K (at k)) v)
+  pub stays-at : {k v : ℕ} → k < length house.places → v < 2 → (K (at k) v && not (struck k v)) ≡ (K (at k) v && value_stays t (bounds_of house) (is_open K (at k)) v)
   stays-at {k} {v} lt low = elim (cases_Bool (K (at k) v)) [
     | inl on ↦ ap (λ b. K (at k) v && b) (same-truth _ _
         (λ off. shown-stays lt low on (shown_from_test _ _ k v (not-true _ off)))
@@ -244,12 +244,12 @@ module _ (cells : ℕ) (house : CountHouse) (K : Candidates) (t : Tally) (is : I
   ]
 
   -- ---- the board after a visit
-  pub after-at : {k v : ℕ} → k < length house.places → v < 2 → after_house house K (at k) v ≡ (K (at k) v && stays t (bounds_of house) (is_open K (at k)) v)
+  pub after-at : {k v : ℕ} → k < length house.places → v < 2 → after_house house K (at k) v ≡ (K (at k) v && value_stays t (bounds_of house) (is_open K (at k)) v)
   unfolding after_house strikes_of
   after-at {k} {v} lt low = grind (arith, common_steps, strikes_at-place, stays-at)
 
   -- a house strikes nothing where both values of a cell with both would stay, if there may be such a cell
-  pub idle-at : ((v : ℕ) → v < 2 → stays t (bounds_of house) (not (eqb t.must t.may)) v ≡ true) → (c v : ℕ) → v < 2 → K c v ≡ true
+  pub idle-at : ((v : ℕ) → v < 2 → value_stays t (bounds_of house) (not (eqb t.must t.may)) v ≡ true) → (c v : ℕ) → v < 2 → K c v ≡ true
       → strikes_of house K c v ≡ false
   unfolding after_house
   idle-at all c v low on = elim (cases_Bool _) [
@@ -267,7 +267,7 @@ module _ (cells : ℕ) (house : CountHouse) (K : Candidates) (t : Tally) (is : I
           let more = open-room K house.places k 0 is.different lt (omega arith) (and_parts (K (at k) 0) (K (at k) 1) both).0 (full (omega arith)) both in
           ap not (ne_eqb t.must t.may (λ e. absurd (omega (arith, more, tally.must_is, tally.may_is))))
 
-      stays-all : {k : ℕ} → k < length house.places → stays t (bounds_of house) (is_open K (at k)) v ≡ true
+      stays-all : {k : ℕ} → k < length house.places → value_stays t (bounds_of house) (is_open K (at k)) v ≡ true
       stays-all {k} lt = elim (cases_Bool (is_open K (at k))) [
         | inl both ↦ rw both (rw (apart k lt both) at (all v low))
         | inr shut ↦ rw shut (ap (λ b. b && true) (and_parts _ _ (all v low)).0)
@@ -303,7 +303,7 @@ module _ {house : CountHouse} (b : Layout) (is : IsHouse (cells_of b) house) (tw
 
   module _ {t : Tally} (tally : IsTally (has b) house.places t) where
     -- a house strikes nothing where all would be kept of a cell with both values, if there may be one
-    pub idle-stays : {kept : ℕ} → ((v : ℕ) → v < 2 → has_bit kept v ≡ stays t (bounds_of house) (not (eqb t.must t.may)) v)
+    pub idle-stays : {kept : ℕ} → ((v : ℕ) → v < 2 → has_bit kept v ≡ value_stays t (bounds_of house) (not (eqb t.must t.may)) v)
         → kept ≡ 3 → has b ≡ after_house house (has b)
     unfolding after_house
     idle-stays keeps all = fun_ext λ c. fun_ext λ v.
@@ -321,7 +321,7 @@ module _ {house : CountHouse} (b : Layout) (is : IsHouse (cells_of b) house) (tw
     -- the next cell
     pub partly-more : {n place : ℕ} (kept : ℕ) {both : Bool} {L M : Candidates} → IsPartly house n (has b) L → n < length house.places
         → place ≡ slice_index house.places n → both ≡ is_open L place
-        → ((v : ℕ) → v < 2 → has_bit kept v ≡ stays t (bounds_of house) both v)
+        → ((v : ℕ) → v < 2 → has_bit kept v ≡ value_stays t (bounds_of house) both v)
         → ((c v : ℕ) → M c v ≡ (L c v && not (eqb place c && not (has_bit kept v)))) → IsPartly house (n + 1) (has b) M
     unfolding after_house
     partly-more {n} {place} kept {L = L} partly lt here whole keeps left = record {
@@ -334,7 +334,7 @@ module _ {house : CountHouse} (b : Layout) (is : IsHouse (cells_of b) house) (tw
         same : (v : ℕ) → L place v ≡ has b place v
         same v = grind (arith, common_steps, partly.left place v, not_taken house.places lt is.different place here, and-true)
 
-        after : (v : ℕ) → v < 2 → after_house house (has b) place v ≡ (has b place v && stays t (bounds_of house) (is_open (has b) place) v)
+        after : (v : ℕ) → v < 2 → after_house house (has b) place v ≡ (has b place v && value_stays t (bounds_of house) (is_open (has b) place) v)
         after v low = rw here (after-at (cells_of b) house (has b) t is tally lt low)
 
         own : (v : ℕ) → (L place v && not (eqb place place && not (has_bit kept v))) ≡ (has b place v && not (has_place (take (n + 1) house.places) place && strikes_of house (has b) place v))

@@ -1,5 +1,5 @@
 -- Houses of a kind, visited in any order.
-use Rattle.fields_core.proofs.Common.{AllByRecursion, AreDistinct, AreIdle, ArePlanesAlive, AreVisited, Bool, Candidates, CountHouse, IsHouse, IsInside, IsLeast, Layers, List, [], after_house, after_houses, and-true, and_from, and_parts, ap, arith, cases_Bool, cells_of, common_steps, count_by, distinct-from, eq-eqb, eqb, eqb-true, false, false_from_ne_true, false≢true, fun_ext, has, has_place, houses_below, inl, inr, list_any, lt-ltb, ltb, ltb-false, ltb-true, not, not-true, or_cases, or_left, or_parts, or_right, refl, sym, true, true≢false, ℕ, ◌&&◌, ◌<◌, ◌||◌, ◌∙◌, ◌∷◌, ◌≡◌, ◌≢◌, ◌≤◌, ◌⊎◌}
+use Rattle.fields_core.proofs.Common.{AllByRecursion, AreDistinct, AreIdle, ArePlanesAlive, AreVisited, Bool, Candidates, CountHouse, IsHouse, IsInside, IsLeast, Layers, List, [], after_house, after_visits, and-true, and_from, and_parts, ap, arith, cases_Bool, cells_of, common_steps, count_by, distinct-from, eq-eqb, eqb, eqb-true, false, false_from_ne_true, false≢true, fun_ext, has, has_place, houses_below, inl, inr, list_any, lt-ltb, ltb, ltb-false, ltb-true, not, not-true, or_cases, or_left, or_parts, or_right, refl, sym, true, true≢false, ℕ, ◌&&◌, ◌<◌, ◌||◌, ◌∙◌, ◌∷◌, ◌≡◌, ◌≢◌, ◌≤◌, ◌⊎◌}
 use Rattle.fields_core.proofs.VisitLemmas.{IsBinaryAlive, IsOneAtMost, after-inside, sweep-first, sweep-more, visits-met, visits-two, zeros_of}
 unfoldable use Rattle.fields_core.proofs.VisitLemmas.{is_met, without_met}
 use Rattle.fields_core.proofs.PlaceLists.{any-here, any-some, count-cons, num, some-counted}
@@ -105,7 +105,7 @@ module _ (some all : List CountHouse) (from to : Layers) (fills : Bool) (alive :
 
   two : (houses : List CountHouse) → AllByRecursion (IsSingle cells) houses → (d e v : ℕ) → d ≢ e
       → list_any (λ house. has_place house.places d && has_place house.places e) houses ≡ true
-      → has from d 0 ≡ false → has from e 0 ≡ false → v < 2 → after_houses houses (has from) d v ≡ false
+      → has from d 0 ≡ false → has from e 0 ≡ false → v < 2 → after_visits houses (has from) d v ≡ false
   two houses each d e v ne on off_d off_e low =
       visits-two cells houses (has from) d e v
       (each-more (IsSingle cells) (λ house. IsHouse cells house × (house.most ≡ 1)) houses (λ house is. (is.is, is.most_is)) each)
@@ -131,7 +131,7 @@ module _ (some all : List CountHouse) (from to : Layers) (fills : Bool) (alive :
       }
 
   met : (houses : List CountHouse) → AllByRecursion (IsSingle cells) houses → list_any (many_in (has from)) houses ≡ false
-      → after_houses houses (has from) ≡ without_met houses (has from)
+      → after_visits houses (has from) ≡ without_met houses (has from)
   met houses each none = visits-met houses (has from) full (few-of cells (has from) houses each none)
 
   -- no house has two
@@ -170,7 +170,7 @@ module _ (cells : ℕ) (house : CountHouse) (K L : Candidates) (is : IsSingle ce
     (inside : IsInside L K) (zeros : AreZerosKept (has_place house.places) K L) (idle : after_house house K ≡ K) where
   -- not two of its cells must be ones
   not-two : {d e : ℕ} → d ≢ e → has_place house.places d ≡ true → has_place house.places e ≡ true → K d 0 ≡ false → K e 0 ≡ false → ⊥
-  unfolding after_houses
+  unfolding after_visits
   not-two {d} {e} ne in_d in_e off_d off_e = elim (full_K.some d (is.is.within d in_d)) [
     | inl zero_on ↦ true≢false (sym zero_on ∙ off_d)
     | inr one_on ↦ true≢false (sym one_on ∙ ap (λ (M : Candidates). M d 1) (sym idle)
@@ -182,7 +182,7 @@ module _ (cells : ℕ) (house : CountHouse) (K L : Candidates) (is : IsSingle ce
 
   left-by : {M : Candidates} → IsBinaryAlive cells M → ((c : ℕ) → has_place house.places c ≡ true → M c 0 ≡ K c 0)
       → after_house house M ≡ without_met (house ∷ []) M
-  unfolding after_houses
+  unfolding after_visits
   left-by {M} full same = visits-met (house ∷ []) M full (few-of cells M (house ∷ []) (is, tt) (none-many M same))
 
   pub single-kept : after_house house L ≡ L
@@ -208,8 +208,8 @@ module _ (cells : ℕ) (house : CountHouse) (K L : Candidates) (is : IsSingle ce
 -- houses of one at most whose visits take nothing: nor do they where only ones of their cells were lost since
 pub singles-kept : (cells : ℕ) (houses : List CountHouse) (K L : Candidates) → AllByRecursion (IsSingle cells) houses
     → IsBinaryAlive cells K → IsBinaryAlive cells L → IsInside L K
-    → AreZerosKept (λ c. list_any (λ house. has_place house.places c) houses) K L → after_houses houses K ≡ K → after_houses houses L ≡ L
-unfolding after_houses
+    → AreZerosKept (λ c. list_any (λ house. has_place house.places c) houses) K L → after_visits houses K ≡ K → after_visits houses L ≡ L
+unfolding after_visits
 singles-kept cells [] K L each full_K full_L inside zeros idle = refl
 singles-kept cells (house ∷ houses) K L (is, each) full_K full_L inside zeros idle =
     let first = idle-first house houses K idle in
@@ -219,13 +219,13 @@ singles-kept cells (house ∷ houses) K L (is, each) full_K full_L inside zeros 
 -- ---- visits of houses of one at most that leave each cell a value
 -- no cell loses 0
 pub singles-zeros : {cells : ℕ} (houses : List CountHouse) {K : Candidates} → AllByRecursion (IsSingle cells) houses → IsBinaryAlive cells K
-    → IsBinaryAlive cells (after_houses houses K) → (c : ℕ) → after_houses houses K c 0 ≡ K c 0
+    → IsBinaryAlive cells (after_visits houses K) → (c : ℕ) → after_visits houses K c 0 ≡ K c 0
 unfolding without_met
 singles-zeros {cells} houses {K} each full after c = elim (cases_Bool (list_any (many_in K) houses)) [
   | inr none ↦ ap (λ (M : Candidates). M c 0) (visits-met houses K full (few-of cells K houses each none)) ∙ and-true (K c 0)
   | inl many ↦
       let w = pair-of cells K houses each many in
-      let gone : (v : ℕ) → v < 2 → after_houses houses K w.0 v ≡ false = λ v low. visits-two cells houses K w.0 w.1 v
+      let gone : (v : ℕ) → v < 2 → after_visits houses K w.0 v ≡ false = λ v low. visits-two cells houses K w.0 w.1 v
       (each-more (IsSingle cells) (λ house. IsHouse cells house × (house.most ≡ 1)) houses (λ house is. (is.is, is.most_is)) each) w.3 w.6 w.4 w.5 low in
       elim (after.some w.0 w.2) [
         | inl zero_on ↦ absurd (true≢false (sym zero_on ∙ gone 0 (omega arith)))
@@ -235,7 +235,7 @@ singles-zeros {cells} houses {K} each full after c = elim (cases_Bool (list_any 
 
 -- so others stay idle
 pub single-keeps : (cells : ℕ) (visited house : CountHouse) → IsSingle cells visited → IsSingle cells house → KeepsIdle cells visited house
-unfolding after_houses
+unfolding after_visits
 single-keeps cells visited house is other K full still idle = single-kept cells house K (after_house visited K) other full still
     (after-inside visited K) (λ c _. singles-zeros (visited ∷ []) (is, tt) full still c) idle
 
@@ -259,7 +259,7 @@ module _ {cells : ℕ} {Is : CountHouse → Type 0} (quiet : AreQuiet cells Is) 
     before : IsBinaryAlive cells (has from)
     before = alive-full from size alive
 
-    after : IsBinaryAlive cells (after_houses (houses_below f m) (has from))
+    after : IsBinaryAlive cells (after_visits (houses_below f m) (has from))
     after = rw (visited.left refl) at (alive-full {cells = cells} to (rw (visited.further.same_size) size) visited.alive)
 
     pub quiet-stays : (others : List CountHouse) → AllByRecursion Is others → AreIdle others (has from) → AreIdle others (has to)

@@ -1,5 +1,5 @@
 -- Houses that are idle: one by one, in parts of a list, and by lines.
-use Rattle.fields_core.proofs.Common.{AllByRecursion, AreDifferent, AreIdle, ArePlanesAlive, AreVisited, Bool, Candidates, CountHouse, IsClosed, IsInside, IsLeast, Layers, List, [], after_house, after_houses, and_parts, any_below, any_below-here, any_below-none, any_below-some, ap, append_assoc, arith, by_fillings-monotone, by_fillings-settled, cases_Bool, cases_eq, cases_lt, common_steps, count_below, count_below-lt, count_house_of, count_puzzle, counts_between, eq-eqb, eqb, false, false_from_ne_true, fun_ext, further-none, get_or-append_seam, has, has_place, houses_below, inl, inr, le-ltb, length, length-append, list_any, list_any-append, lt-ltb, ltb, ne_eqb, no_count_house, not, not-true, or_cases, refl, strikes_at-inside, strikes_of, suc, sym, true, true≢false, zero, ℕ, ◌&&◌, ◌++◌, ◌+◌, ◌-◌, ◌<◌, ◌||◌, ◌∙◌, ◌∷◌, ◌≡◌, ◌≤◌, ◌⊎◌}
+use Rattle.fields_core.proofs.Common.{AllByRecursion, AreDifferent, AreIdle, ArePlanesAlive, AreVisited, Bool, Candidates, CountHouse, IsClosed, IsInside, IsLeast, Layers, List, [], after_house, after_visits, and_parts, any_below, any_below-here, any_below-none, any_below-some, ap, append_assoc, arith, by_fillings-monotone, by_fillings-settled, cases_Bool, cases_eq, cases_lt, common_steps, count_below, count_below-lt, count_house_of, count_puzzle, counts_between, eq-eqb, eqb, false, false_from_ne_true, fun_ext, further-none, get_or-append_seam, has, has_place, houses_below, inl, inr, le-ltb, length, length-append, list_any, list_any-append, lt-ltb, ltb, ne_eqb, no_count_house, not, not-true, or_cases, refl, strikes_at-inside, strikes_of, suc, sym, true, true≢false, zero, ℕ, ◌&&◌, ◌++◌, ◌+◌, ◌-◌, ◌<◌, ◌||◌, ◌∙◌, ◌∷◌, ◌≡◌, ◌≤◌, ◌⊎◌}
 use Rattle.fields_core.proofs.VisitLemmas.{IsBinaryAlive, after-inside, below-rest, others-stay, sweep-broken, sweep-first, sweep-more, visited-left, visits-append, visits-inside}
 use Rattle.fields_core.proofs.HouseLemmas.{below-more}
 use Rattle.fields_core.proofs.CellLemmas.{first-off}
@@ -29,19 +29,19 @@ unfoldable pub any_has : List CountHouse → ℕ → Bool
 any_has houses c = list_any (λ house. has_place house.places c) houses
 
 pub idle-first : (house : CountHouse) (houses : List CountHouse) (K : Candidates) → AreIdle (house ∷ houses) K → after_house house K ≡ K
-unfolding after_houses
+unfolding after_visits
 idle-first house houses K idle = fun_ext λ c. fun_ext λ v. elim (cases_Bool (K c v)) [
   | inl on ↦ visits-inside houses (after_house house K) c v (ap (λ (L : Candidates). L c v) idle ∙ on) ∙ sym on
   | inr off ↦ false_from_ne_true _ (λ on. true≢false (sym (after-inside house K c v on) ∙ off)) ∙ sym off
 ]
 
 pub idle-rest : (house : CountHouse) (houses : List CountHouse) (K : Candidates) → AreIdle (house ∷ houses) K → AreIdle houses K
-unfolding after_houses
+unfolding after_visits
 idle-rest house houses K idle = rw (idle-first house houses K idle) at idle
 
 -- houses far from what has changed stay idle
 pub idle-far : (houses : List CountHouse) (K L : Candidates) → IsInside L K → IsFar (any_has houses) K L → AreIdle houses K → AreIdle houses L
-unfolding after_houses any_has
+unfolding after_visits any_has
 idle-far [] K L inside far idle = refl
 idle-far (house ∷ houses) K L inside far idle =
     rw (house-far house inside (λ c v on off. (far-of c v on off).0) (idle-first house houses K idle))
@@ -115,8 +115,8 @@ pub record AreQuiet (cells : ℕ) (Is : CountHouse → Type 0) : Type 0 where
 
 module _ {cells : ℕ} {Is : CountHouse → Type 0} (quiet : AreQuiet cells Is) where
   one-kept : (house : CountHouse) (visited : List CountHouse) (K : Candidates) → Is house → AllByRecursion Is visited → IsBinaryAlive cells K
-      → IsBinaryAlive cells (after_houses visited K) → after_house house K ≡ K → after_house house (after_houses visited K) ≡ after_houses visited K
-  unfolding after_houses
+      → IsBinaryAlive cells (after_visits visited K) → after_house house K ≡ K → after_house house (after_visits visited K) ≡ after_visits visited K
+  unfolding after_visits
   one-kept house [] K is each full still idle = idle
   one-kept house (first ∷ visited) K is (one, each) full still idle =
       let between = full-between full still (after-inside first K) (visits-inside visited (after_house first K)) in
@@ -124,15 +124,15 @@ module _ {cells : ℕ} {Is : CountHouse → Type 0} (quiet : AreQuiet cells Is) 
 
   -- visits leave houses idle that were
   pub list-kept : (houses visited : List CountHouse) (K : Candidates) → AllByRecursion Is houses → AllByRecursion Is visited → IsBinaryAlive cells K
-      → IsBinaryAlive cells (after_houses visited K) → AreIdle houses K → AreIdle houses (after_houses visited K)
-  unfolding after_houses
+      → IsBinaryAlive cells (after_visits visited K) → AreIdle houses K → AreIdle houses (after_visits visited K)
+  unfolding after_visits
   list-kept [] visited K each all full still idle = refl
   list-kept (house ∷ houses) visited K (is, each) all full still idle = grind (arith, common_steps, one-kept, idle-first, idle-rest, list-kept houses visited K each all full still (idle-rest house houses K idle))
 
   -- and those that were visited
   pub list-settled : (houses : List CountHouse) (K : Candidates) → AllByRecursion Is houses → IsBinaryAlive cells K
-      → IsBinaryAlive cells (after_houses houses K) → AreIdle houses (after_houses houses K)
-  unfolding after_houses
+      → IsBinaryAlive cells (after_visits houses K) → AreIdle houses (after_visits houses K)
+  unfolding after_visits
   list-settled [] K each full still = refl
   list-settled (house ∷ houses) K (is, each) full still =
       let between = full-between full still (after-inside house K) (visits-inside houses (after_house house K)) in
@@ -173,13 +173,13 @@ in-below f {k} {n} lt =
 -- ---- lists of idle houses
 -- the houses of the lists below n, where each list is idle
 pub below-idle : (f : ℕ → List CountHouse) (n : ℕ) (K : Candidates) → ((k : ℕ) → k < n → AreIdle (f k) K) → AreIdle (houses_below f n) K
-unfolding houses_below after_houses
+unfolding houses_below after_visits
 below-idle f zero K each = refl
 below-idle f (suc n) K each = grind (arith, common_steps, visits-append, below-idle f n K (λ k lt. each k (omega arith)))
 
 -- each list of idle houses is idle
 idle-parts : (front back : List CountHouse) (K : Candidates) → AreIdle (front ++ back) K → AreIdle front K × AreIdle back K
-unfolding after_houses
+unfolding after_visits
 idle-parts [] back K idle = (refl, idle)
 idle-parts (house ∷ front) back K idle =
     let first = idle-first house (front ++ back) K idle in
@@ -206,7 +206,7 @@ module _ (cells : ℕ) (blocked : ℕ → Bool) (houses : List CountHouse) (is_s
       by c v here (inl on) = rw (on, here on) refl
 
   part-idle : (front part back : List CountHouse) → houses ≡ front ++ (part ++ back) → AreIdle part K
-  unfolding after_houses
+  unfolding after_visits
   part-idle front [] back is = refl
   part-idle front (house ∷ part) back is = grind (arith, common_steps, house-idle, part-idle (front ++ house ∷ []) part back (is ∙ sym (append_assoc front (house ∷ []) (part ++ back))))
 

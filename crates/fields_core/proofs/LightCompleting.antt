@@ -1,5 +1,5 @@
 -- Light Up: names of houses, lonely numbers, and grids that meet each house.
-use Rattle.fields_core.proofs.Common.{AreMet, AreNamed, Black, Bool, CountHouse, HouseName, IsAround, IsGrid, IsLight, IsNext, Light, LightCell, LightHouse, List, None, Numbered, Option, Segment, Some, White, [], all_below-at, all_below-from, and_parts, any_below, any_below-here, any_below-none, any_below-some, ap, append-nil, ap₂, arith, asks, begins_column_run, begins_row_run, black_right, bulb, bulb_right, bulbs_beside, cases_Bool, cases_eq, cases_lt, column_house, column_run, common_steps, cond, count_by, count_by-le-length, count_house_of, eq-eqb, eqb, eqb-true, exactly, false, false_from_ne_true, filter, get_or, get_or_append_left, has_place, has_place-at, houses_below, inl, inr, is_some, is_white, leb-true, length, length-append, light_cells, light_counts, light_house, light_houses, line_cells, line_white, lit_house, lit_right, lonely, lt-ltb, ltb-true, map, meets, min, mod-lt, ne_eqb, no_count_house, nonzeros, not, not-true, number_house, number_right, one_at_least, one_at_most, or_cases, or_left, or_right, place-append, place-filter, place-front, places_of, refl, row_house, row_run, run_house, seen_from, sees, sees_bulb, segment_places, slice_index, solves_lights, steps, suc, sym, true, true≢false, white, zero, ℕ, ◌%◌, ◌&&◌, ◌*◌, ◌++◌, ◌+◌, ◌-◌, ◌/◌, ◌<◌, ◌||◌, ◌∙◌, ◌∷◌, ◌≡◌, ◌≤◌}
+use Rattle.fields_core.proofs.Common.{AreMet, AreNamed, Black, Bool, CountHouse, HouseName, IsAround, IsGrid, IsLight, IsNext, Light, LightCell, LightHouse, List, None, Numbered, Option, Segment, Some, White, [], all_below-at, all_below-from, and_parts, any_below, any_below-here, any_below-none, any_below-some, ap, append-nil, ap₂, arith, asks, begins_column_run, begins_row_run, black_right, bulb, bulb_right, bulbs_beside, cases_Bool, cases_eq, cases_lt, column_house, column_run, common_steps, cond, count_by, count_by-le-length, count_house_of, eq-eqb, eqb, eqb-true, exactly, false, false_from_ne_true, filter, get_or, get_or_append_left, has_place, has_place-at, houses_below, inl, inr, is_some, is_white, leb-true, length, length-append, light_cells, light_counts, light_house, light_houses, line_cells, line_white, lit_house, lit_right, lonely, lt-ltb, ltb-true, map, meets_house, min, mod-lt, ne_eqb, no_count_house, nonzeros, not, not-true, number_house, number_right, one_at_least, one_at_most, or_cases, or_left, or_right, place-append, place-filter, place-front, places_of, refl, row_house, row_run, run_house, seen_from, sees, sees_bulb, segment_places, slice_index, solves_lights, steps, suc, sym, true, true≢false, white, zero, ℕ, ◌%◌, ◌&&◌, ◌*◌, ◌++◌, ◌+◌, ◌-◌, ◌/◌, ◌<◌, ◌||◌, ◌∙◌, ◌∷◌, ◌≡◌, ◌≤◌}
 use Rattle.fields_core.proofs.LightHouseLaws.{bulb-in, column-self, lit-from, lit-parts, row-self, small-at, white-in}
 use Rattle.fields_core.proofs.RunLemmas.{column-house-is, lit-lines, row-house-is}
 use Rattle.fields_core.proofs.BesideLemmas.{row-in, whole-cell}
@@ -73,8 +73,8 @@ unfolding white
 asks-black p c on is = let w = asks-number (get_or p.cells c Black) on in true≢false (sym is ∙ ap is_white w.1)
 
 -- a name asks for what no grid has
-abbrev pub calls : Light → HouseName LightHouse → Bool
-calls p name = asks (get_or p.cells name.place Black) && eqb name.cells 0
+abbrev pub names_lonely : Light → HouseName LightHouse → Bool
+names_lonely p name = asks (get_or p.cells name.place Black) && eqb name.cells 0
 
 -- only a number tells the house of a number other than 0 with no cell
 told-asks : (p : Light) (kind : LightHouse) (c n : ℕ) (places : List ℕ) → light_house p kind c ≡ exactly n places ∷ [] → 0 < n → length places ≡ 0
@@ -113,7 +113,7 @@ no_name = record { kind = Number; place = 0; cells = 0 }
 module _ (p : Light) (names : List (HouseName LightHouse)) (are : AreNamed (light_house p) names (light_houses p)) where
   -- one of the first names is that of the number of a cell
   number-named : {c n : ℕ} → c < light_cells p → get_or p.cells c Black ≡ Numbered n → 0 < n → length (filter (white p) (steps p.size c 4)) ≡ 0
-      → (k : ℕ) × (k < length names) × (k < light_cells p) × (calls p (get_or names k no_name) ≡ true)
+      → (k : ℕ) × (k < length names) × (k < light_cells p) × (names_lonely p (get_or names k no_name) ≡ true)
   unfolding light_houses
   number-named {c} {n} lt e some none =
       let house = exactly n (filter (white p) (steps p.size c 4)) in
@@ -128,12 +128,12 @@ module _ (p : Light) (names : List (HouseName LightHouse)) (are : AreNamed (ligh
       (low.number, within, omega (arith, low.within, numbers-few p (light_cells p)), rw (told-asks p name.kind name.place n _ told some none, cells) refl)
 
   -- where none of the first names asks for what no grid has, no number is lonely
-  pub none-lonely : ((k : ℕ) → k < length names → k < light_cells p → calls p (get_or names k no_name) ≡ false)
+  pub none-lonely : ((k : ℕ) → k < length names → k < light_cells p → names_lonely p (get_or names k no_name) ≡ false)
       → any_below (lonely p) (light_cells p) ≡ false
   none-lonely off = grind (arith, common_steps, false_from_ne_true, any_below-some, and_parts, asks-number, number-named, eqb-true)
 
   -- one of them that does is that of a lonely number
-  pub some-lonely : (k : ℕ) → IsLight p → k < length names → calls p (get_or names k no_name) ≡ true → any_below (lonely p) (light_cells p) ≡ true
+  pub some-lonely : (k : ℕ) → IsLight p → k < length names → names_lonely p (get_or names k no_name) ≡ true → any_below (lonely p) (light_cells p) ≡ true
   some-lonely k lawful lt on =
       let name = get_or names k no_name in
       let told = named-told (light_house p) names (light_houses p) no_name are lt in let parts = and_parts _ _ on in
@@ -142,7 +142,7 @@ module _ (p : Light) (names : List (HouseName LightHouse)) (are : AreNamed (ligh
       (calls-lonely p name.kind name.place _ told none parts.0)
 
   pub lonely-told : (n : ℕ) (found : Option ℕ) → IsLight p → n ≡ min (length names) (light_cells p)
-      → IsNext (λ k. calls p (get_or names k no_name)) n 0 found → is_some found ≡ any_below (lonely p) (light_cells p)
+      → IsNext (λ k. names_lonely p (get_or names k no_name)) n 0 found → is_some found ≡ any_below (lonely p) (light_cells p)
   lonely-told n None lawful e next = sym (none-lonely (λ k named cell. next k (omega arith) (omega arith)))
   lonely-told n (Some k) lawful e next = sym (some-lonely k lawful (omega (arith, next.1)) next.2)
 
@@ -153,7 +153,7 @@ module _ (p : Light) (g : List ℕ) (is : IsLight p) (grid : IsGrid (light_cells
 
   -- the house is met, if it has a cell
   abbrev Meets : CountHouse → Type 0
-  Meets house = 0 < length house.places → meets house g ≡ true
+  Meets house = 0 < length house.places → meets_house house g ≡ true
 
   bulb-white : (c : ℕ) → c < light_cells p → bulb g c ≡ true → white p c ≡ true
   bulb-white c lt on = grind (arith, common_steps, cases_Bool, eqb-true)
@@ -178,7 +178,7 @@ module _ (p : Light) (g : List ℕ) (is : IsLight p) (grid : IsGrid (light_cells
   -- two bulbs do not stand in one run
   run-apart : (run : List ℕ) (c d : ℕ) → Meets (one_at_most run) → has_place run c ≡ true → has_place run d ≡ true → bulb g c ≡ true → bulb g d ≡ true
       → (c ≡ d → ⊥) → ⊥
-  unfolding meets
+  unfolding meets_house
   run-apart run c d is_met mc md bc bd apart = grind (arith, common_steps, has_place-at, and_parts, leb-true, ones-bulbs, small-at, count-two)
 
   bulbs-right : (c : ℕ) → c < light_cells p → bulb_right p g c ≡ true
@@ -203,7 +203,7 @@ module _ (p : Light) (g : List ℕ) (is : IsLight p) (grid : IsGrid (light_cells
       (among-below _ (lit_house p) lt (rw on (among-one _))))))
 
   bulb-seen : {c : ℕ} → c < light_cells p → white p c ≡ true → (d : ℕ) × (has_place (seen_from p c) d ≡ true) × (bulb g d ≡ true)
-  unfolding meets seen_from
+  unfolding meets_house seen_from
   bulb-seen {c} lt on =
       let own = has_place-at (seen_from p c) c (place-front _ _ c (in-row-run p c c board.some (row-self p c on))) in
       let some = leb-true 1 (nonzeros (map (slice_index g) (seen_from p c))) (and_parts _ _ (lit-met lt on (omega (arith, own.1)))).0 in
@@ -242,7 +242,7 @@ module _ (p : Light) (g : List ℕ) (is : IsLight p) (grid : IsGrid (light_cells
   whites c = filter (white p) (steps p.size c 4)
 
   beside-met : (c n : ℕ) → c < light_cells p → get_or p.cells c Black ≡ Numbered n → 0 < length (whites c) → bulbs_beside p g c ≡ n
-  unfolding meets
+  unfolding meets_house
   beside-met c n lt e some =
       let counts = and_parts _ _ (number-met n lt e some) in
       omega (arith, leb-true n _ counts.0, leb-true (nonzeros (map (slice_index g) (whites c))) n counts.1, ones-bulbs g (whites c) (small-at grid), beside-white c)

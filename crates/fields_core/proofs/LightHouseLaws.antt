@@ -1,5 +1,5 @@
 -- The houses of Light Up, its tests, and which bulbs a cell sees.
-use Rattle.fields_core.proofs.Common.{AreDistinct, Bool, CountHouse, Extent, IsGrid, IsHouse, Light, List, ℕ, all_below, all_below-at, all_below-from, and_from, and_parts, ap, arith, begins_column_run, begins_row_run, black_right, bulb, bulb_right, cases_Bool, cases_eq, cases_lt, clear, column-at, column_places, column_run, common_steps, count_by, different-from, distinct-from, div-eq_of_lt, div-lt_iff_lt-mul, eq-eqb, eqb, eqb-true, false, false_from_ne_true, filter, filter_agree, get_or_past, has_place, inl, inr, joined_in_column, joined_in_row, le-leb, length, light_cells, lit_right, lt-ltb, ltb, ltb-true, max, meets, min, mod-lt, mul-le-mul_right, not, not-false, number_right, or_cases, or_left, or_parts, or_right, row-at, row_places, row_run, slice_index, solves_lights, sym, true, white, ◌%◌, ◌*◌, ◌+◌, ◌-◌, ◌/◌, ◌<◌, ◌||◌, ◌∙◌, ◌≡◌, ◌≤◌}
+use Rattle.fields_core.proofs.Common.{AreDistinct, Bool, CountHouse, Extent, IsGrid, IsHouse, Light, List, ℕ, all_below, all_below-at, all_below-from, and_from, and_parts, ap, arith, begins_column_run, begins_row_run, black_right, bulb, bulb_right, cases_Bool, cases_eq, cases_lt, clear, column-at, column_places, column_run, common_steps, count_by, different-from, distinct-from, div-eq_of_lt, div-lt_iff_lt-mul, eq-eqb, eqb, eqb-true, false, false_from_ne_true, filter, filter_agree, get_or_past, has_place, inl, inr, joined_in_column, joined_in_row, le-leb, length, light_cells, lit_right, lt-ltb, ltb, ltb-true, max, meets_house, min, mod-lt, mul-le-mul_right, not, not-false, number_right, or_cases, or_left, or_parts, or_right, row-at, row_places, row_run, slice_index, solves_lights, sym, true, white, ◌%◌, ◌*◌, ◌+◌, ◌-◌, ◌/◌, ◌<◌, ◌||◌, ◌∙◌, ◌≡◌, ◌≤◌}
 use Rattle.fields_core.proofs.HouseLemmas.{column-long, row-long}
 use Rattle.fields_core.proofs.BesideLemmas.{cell-below, cell-parts, whole-cell}
 use Rattle.fields_core.proofs.PlaceLists.{ones-bulbs}
@@ -51,7 +51,7 @@ some-column p lt = grind (arith, common_steps)
 -- ---- a house of the board that each solution meets
 pub record IsMet (cells : ℕ) (good : List ℕ → Bool) (house : CountHouse) : Type 0 where
   pub is_house : IsHouse cells house
-  pub met : (g : List ℕ) → IsGrid cells 2 g → good g ≡ true → meets house g ≡ true
+  pub met : (g : List ℕ) → IsGrid cells 2 g → good g ≡ true → meets_house house g ≡ true
 
 pub small-at : {cells : ℕ} {g : List ℕ} → IsGrid cells 2 g → (c : ℕ) → slice_index g c < 2
 small-at grid c = grind (arith, common_steps, cases_lt, get_or_past)
@@ -61,7 +61,7 @@ pub met-from : {cells : ℕ} {good : List ℕ → Bool} {house : CountHouse} →
     → length house.places ≤ 512 → house.least ≤ 512 → house.most ≤ 512
     → ((g : List ℕ) → IsGrid cells 2 g → good g ≡ true → (house.least ≤ count_by (bulb g) house.places) × (count_by (bulb g) house.places ≤ house.most))
     → IsMet cells good house
-unfolding meets
+unfolding meets_house
 met-from within distinct few least most counted = grind (arith, common_steps, different-from, ones-bulbs, small-at, and_from, le-leb)
 
 -- ---- white cells and lines

@@ -1,5 +1,5 @@
 -- Visits of the white cells of Light Up on planes.
-use Rattle.fields_core.proofs.Common.{ArePieces, ArePlanesAlive, AreVisited, Bool, Column, Extent, IsColumnRun, IsFurther, IsHouse, IsHouseOf, IsLight, IsRowRun, Layers, Light, List, Piece, Row, and-false, and-true, and_from, and_parts, any_below, any_below-none, any_below-some, ap, arith, cases_Bool, cases_eq, column_house, column_run, common_steps, count_below, count_below-pos, count_below-same, crosses, distinct-from, div-mul-add, eq-eqb, eqb, eqb-true, false, false_from_ne_true, has_bit, has_place, houses_below, joined_in_column, joined_in_row, length, lies_in, lies_in_first, light_cells, light_houses, lit_house, lt-ltb, ltb-true, mod-lt, ne_eqb, not, number_house, one_at_least, place-column, place-in, refl, row_house, row_run, seen_from, subst, sym, true, true≢false, white, ℕ, ◌%◌, ◌&&◌, ◌*◌, ◌+◌, ◌/◌, ◌<◌, ◌∙◌, ◌≡◌, ◌≤◌}
+use Rattle.fields_core.proofs.Common.{ArePieces, ArePlanesAlive, AreVisited, Bool, Column, Extent, IsColumnRun, IsFurther, IsHouse, IsHouseOfPieces, IsLight, IsRowRun, Layers, Light, List, Piece, Row, and-false, and-true, and_from, and_parts, any_below, any_below-none, any_below-some, ap, arith, cases_Bool, cases_eq, column_house, column_run, common_steps, count_below, count_below-pos, count_below-same, crosses, distinct-from, div-mul-add, eq-eqb, eqb, eqb-true, false, false_from_ne_true, has_bit, has_place, houses_below, joined_in_column, joined_in_row, length, lies_in, lies_in_first, light_cells, light_houses, lit_house, lt-ltb, ltb-true, mod-lt, ne_eqb, not, number_house, one_at_least, place-column, place-in, refl, row_house, row_run, seen_from, subst, sym, true, true≢false, white, ℕ, ◌%◌, ◌&&◌, ◌*◌, ◌+◌, ◌/◌, ◌<◌, ◌∙◌, ◌≡◌, ◌≤◌}
 use Rattle.fields_core.proofs.CellLemmas.{has-append, place-count, same-truth}
 use Rattle.fields_core.proofs.LightRuleLemmas.{column-run-joined, in-column-run, in-row-run, light-board, light-counting, row-run-joined}
 use Rattle.fields_core.proofs.LightHouseLaws.{column-parts, column-white-end, row-parts, row-self, white-in}
@@ -8,7 +8,7 @@ use Rattle.fields_core.proofs.LightRunOrder.{row-white-start}
 use Rattle.fields_core.proofs.PartLemmas.{counted-more, counted-none}
 use Rattle.fields_core.proofs.PlaceLists.{count-every, filter-has}
 use Rattle.fields_core.proofs.BesideLemmas.{cell-in, row-in, whole-cell}
-use Rattle.fields_core.proofs.TentCounting.{IsVisitOf}
+use Rattle.fields_core.proofs.TentCounting.{IsVisitOfPieces}
 use Rattle.fields_core.proofs.VisitLemmas.{among-back, among-below, among-house, among-one, visited-none, visited-one}
 
 -- ---- the house of a white cell is a house
@@ -137,11 +137,11 @@ module _ {p : Light} {y x row_bits column_bits others : ℕ} {from : Layers} {ro
         ∙ count_below-same _ (λ c. lies_in_first p.size.w pieces 2 c && true) (light_cells p) (λ c _. ap (λ b. b && true) (seen-has c)) in
         omega (arith, count-every (λ _. true) (seen_from p cell) (λ _ _. refl), all, row, column, counted-none p.size.w pieces (light_cells p) (λ _. true))
 
-    pub house-of : IsHouseOf from.size pieces 1 most (one_at_least (seen_from p cell))
-    house-of = subst (λ (e : Extent). IsHouseOf e pieces 1 most (one_at_least (seen_from p cell))) (sym s.size)
+    pub house-of : IsHouseOfPieces from.size pieces 1 most (one_at_least (seen_from p cell))
+    house-of = subst (λ (e : Extent). IsHouseOfPieces e pieces 1 most (one_at_least (seen_from p cell))) (sym s.size)
         (record { is = house_is; least_is = refl; most_is = house-long; cells = seen-has })
 
-    pub lit-visited : {to : Layers} {fills : Bool} → IsVisitOf pieces 1 most from to fills → ArePlanesAlive to → IsFurther from to → AreVisited (lit_house p cell) from to fills
+    pub lit-visited : {to : Layers} {fills : Bool} → IsVisitOfPieces pieces 1 most from to fills → ArePlanesAlive to → IsFurther from to → AreVisited (lit_house p cell) from to fills
     lit-visited visit alive further =
         let told = visit _ house-of in
         rw (white-run on) (visited-one house-of.is (omega (arith, house-long, some-cell)) told.0 told.1 alive further)

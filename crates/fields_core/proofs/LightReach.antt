@@ -1,5 +1,5 @@
 -- Light Up: the rows of numbers and of white cells that wait.
-use Rattle.fields_core.proofs.Common.{AreColumnsParted, AreIdleBut, AreParted, ArePlanesAlive, Bool, Candidates, Column, IsAway, IsLeast, IsLight, IsReach, IsRowOf, Layers, Light, Line, Row, Touched, ℕ, [], after_houses, and-false, and_from, any_below, any_below-none, ap, arith, at_line, cases_Bool, cases_lt, clear, common_steps, div-mul-add, eqb, false, false_from_ne_true, has_bit, has_place, houses_below, inl, inr, is_numbered, joined_in_column, joined_in_row, le-ltb, light_cells, line_len, lines_beside, lt-ltb, ltb, max, min, not, number_house, number_of, numbers_of_row, place-append, place-column, place-filter, place-in, refl, seen_from, sym, true, true≢false, white, ◌%◌, ◌&&◌, ◌*◌, ◌+◌, ◌/◌, ◌<◌, ◌∙◌, ◌≡◌, ◌≤◌, ◌⊎◌}
+use Rattle.fields_core.proofs.Common.{AreColumnsParted, AreIdleBut, AreParted, ArePlanesAlive, Bool, Candidates, Column, IsAway, IsLeast, IsLight, IsReach, IsRowOf, Layers, Light, Line, Row, Touched, ℕ, [], after_visits, and-false, and_from, any_below, any_below-none, ap, arith, at_line, cases_Bool, cases_lt, clear, common_steps, div-mul-add, eqb, false, false_from_ne_true, has_bit, has_place, houses_below, inl, inr, is_numbered, joined_in_column, joined_in_row, le-ltb, light_cells, line_len, lines_beside, lt-ltb, ltb, max, min, not, number_house, number_of, numbers_of_row, place-append, place-column, place-filter, place-in, refl, seen_from, sym, true, true≢false, white, ◌%◌, ◌&&◌, ◌*◌, ◌+◌, ◌/◌, ◌<◌, ◌∙◌, ◌≡◌, ◌≤◌, ◌⊎◌}
 use Rattle.fields_core.proofs.VisitLemmas.{below-rows}
 use Rattle.fields_core.proofs.CellLemmas.{has-at}
 use Rattle.fields_core.proofs.LightRuleLemmas.{column-run-joined, light-board, row-run-joined}
@@ -17,7 +17,7 @@ bare p c off = grind (arith, common_steps)
 
 -- none of the cells of a row that have no number waits
 pub numbers-all : (p : Light) (y word : ℕ) (K : Candidates) → IsRowOf p.size.w (is_numbered p) y word → AreIdleBut p word y K
-unfolding after_houses
+unfolding after_visits
 numbers-all p y _ K row x lt off = rw (bare p (y * p.size.w + x) (rw (lt-ltb _ _ lt) at (sym (row x) ∙ off))) refl
 
 -- numbers in some columns wait

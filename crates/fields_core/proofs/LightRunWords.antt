@@ -1,5 +1,5 @@
 -- Words of runs along a line, as they are written one after another.
-use Rattle.fields_core.proofs.Common.{AreFilled, AreWritten, Bool, Candidates, Extent, IsColumnOf, IsColumnRun, IsLeast, IsRowOf, IsRowRun, IsRunAt, Layers, Light, List, ℕ, all_of, and-false, and-true, and_from, and_parts, any_below, any_below-none, ap, arith, bit_of, cases_Bool, cases_eq, cases_lt, clear, common_steps, div-mul-add, eq-eqb, eqb, false, false_from_ne_true, get_or-set_other, get_or-set_same, has, has_bit, inl, inr, joined_in_column, joined_in_row, le-ltb, length, length-map, length-set, light_cells, light_rules, lt-ltb, ltb, ltb-true, map, map-set, mul-le-mul_right, ne_eqb, not, not-false, not-true, place-column, place-in, refl, set, slice_index, start_of, subst, sym, true, true≢false, white, ◌%◌, ◌&&◌, ◌*◌, ◌+◌, ◌-◌, ◌/◌, ◌<◌, ◌∙◌, ◌≡◌, ◌≢◌, ◌≤◌}
+use Rattle.fields_core.proofs.Common.{AreWordsFilled, AreWordsWritten, Bool, Candidates, Extent, IsColumnOf, IsColumnRun, IsLeast, IsRowOf, IsRowRun, IsRunAt, Layers, Light, List, ℕ, all_of, and-false, and-true, and_from, and_parts, any_below, any_below-none, ap, arith, bit_of, cases_Bool, cases_eq, cases_lt, clear, common_steps, div-mul-add, eq-eqb, eqb, false, false_from_ne_true, get_or-set_other, get_or-set_same, has, has_bit, inl, inr, joined_in_column, joined_in_row, le-ltb, length, length-map, length-set, light_cells, light_rules, lt-ltb, ltb, ltb-true, map, map-set, mul-le-mul_right, ne_eqb, not, not-false, not-true, place-column, place-in, refl, set, slice_index, start_of, subst, sym, true, true≢false, white, ◌%◌, ◌&&◌, ◌*◌, ◌+◌, ◌-◌, ◌/◌, ◌<◌, ◌∙◌, ◌≡◌, ◌≢◌, ◌≤◌}
 use Rattle.fields_core.proofs.CellLemmas.{has-at, same-truth, second-off}
 use Rattle.fields_core.proofs.LightHouseLaws.{clear-at, clear-from}
 use Rattle.fields_core.proofs.RunLemmas.{column-cell-joined, row-cell-joined}
@@ -72,7 +72,7 @@ module _ {test : ℕ → Bool} {len at left : ℕ} (are : AreNumbersLeft test le
     left-next told = grind (arith, common_steps, run-least, cases_lt, lt-ltb, and-false, cases_eq, eq-eqb, ne_eqb, le-ltb, and-true)
 
 -- ---- the words of a line
-pub written-none : {test : ℕ → Bool} {len first stride : ℕ} {words : List ℕ} → AreWritten test len first stride 0 words words
+pub written-none : {test : ℕ → Bool} {len first stride : ℕ} {words : List ℕ} → AreWordsWritten test len first stride 0 words words
 written-none = record { each = λ i lt. absurd (omega arith); others = λ c out. refl; long = refl }
 
 places-apart : (first : ℕ) {stride : ℕ} (i n : ℕ) → 0 < stride → i ≢ n → first + i * stride ≢ first + n * stride
@@ -82,9 +82,9 @@ places-apart first {stride} i n some ne e = elim (cases_lt i n) [
 ]
 
 pub written-more : (test : ℕ → Bool) (len first stride n bits : ℕ) (from to : List ℕ) → 0 < stride
-    → first + n * stride < length to → AreWritten test len first stride n from to
+    → first + n * stride < length to → AreWordsWritten test len first stride n from to
     → IsRunAt test len n bits
-    → AreWritten test len first stride (n + 1) from (set to (first + n * stride) bits)
+    → AreWordsWritten test len first stride (n + 1) from (set to (first + n * stride) bits)
 written-more test len first stride n bits from to some there is run = record {
   each = λ i lt. elim (cases_eq i n) [
     | inl e ↦ rw (e, get_or-set_same to (first + n * stride) bits 0 there) run
@@ -96,22 +96,22 @@ written-more test len first stride n bits from to some there is run = record {
 
 pub words-more : {W : Type 0} (bits : W → ℕ) {test : ℕ → Bool} {len first stride n place : ℕ} {from : List ℕ} (words : List W) (word : W)
     → place ≡ first + n * stride → 0 < stride → place < length words
-    → AreWritten test len first stride n from (map bits words) → IsRunAt test len n (bits word)
-    → AreWritten test len first stride (n + 1) from (map bits (set words place word))
+    → AreWordsWritten test len first stride n from (map bits words) → IsRunAt test len n (bits word)
+    → AreWordsWritten test len first stride (n + 1) from (map bits (set words place word))
 words-more bits {test} {len} {first} {stride} {n} {place} {from} words word e some there is run =
     let inside : first + n * stride < length (map bits words) = omega (arith, there, e, length-map words bits) in
     rw (map-set bits words place word, e) (written-more test len first stride n (bits word) from (map bits words) some inside is run)
 
 -- ---- the word of a run
 pub filled-more : {W : Type 0} (bits : W → ℕ) {first stride start n : ℕ} {from : List ℕ} (words : List W) (word : W)
-    → start ≤ n → first + n * stride < length words → AreFilled first stride start n (bits word) from (map bits words)
-    → AreFilled first stride start (n + 1) (bits word) from (map bits (set words (first + n * stride) word))
+    → start ≤ n → first + n * stride < length words → AreWordsFilled first stride start n (bits word) from (map bits words)
+    → AreWordsFilled first stride start (n + 1) (bits word) from (map bits (set words (first + n * stride) word))
 filled-more bits {first} {stride} {n} words word low there is = grind (arith, common_steps, map-set, cases_eq, get_or-set_same, get_or-set_other, length-map)
 
 pub written-filled : {test : ℕ → Bool} {len first stride start end bits : ℕ} {from mid to : List ℕ} → 0 < stride
     → IsRunFrom test len start end → ((k : ℕ) → has_bit bits k ≡ (ltb k end && not (ltb k start)))
-    → AreWritten test len first stride start from mid → AreFilled first stride start end bits mid to → length to ≡ length mid
-    → AreWritten test len first stride end from to
+    → AreWordsWritten test len first stride start from mid → AreWordsFilled first stride start end bits mid to → length to ≡ length mid
+    → AreWordsWritten test len first stride end from to
 written-filled {test} {len} {first} {stride} {start} {end} {bits} some run told is filled long = record {
   each = λ i lt. elim (cases_lt i start) [
     | inl early ↦
@@ -143,7 +143,7 @@ row-run-from p y whites {i} bits lt are = run-from whites bits (λ k. white p (y
 
 pub rows-written : (p : Light) (y whites : ℕ) (from to : List ℕ) → IsRowOf p.size.w (white p) y whites
     → ((c : ℕ) → c < y * p.size.w → IsRowRun p c (slice_index from c))
-    → AreWritten (has_bit whites) p.size.w (y * p.size.w) 1 p.size.w from to
+    → AreWordsWritten (has_bit whites) p.size.w (y * p.size.w) 1 p.size.w from to
     → (c : ℕ) → c < (y + 1) * p.size.w → IsRowRun p c (slice_index to c)
 rows-written p y whites from to are before is c lt = elim (cases_lt c (y * p.size.w)) [
   | inl early ↦ subst (IsRowRun p c) (sym (is.others c (λ i _ e. absurd (omega arith)))) (before c early)
@@ -162,7 +162,7 @@ column-run-from p {x} whites {i} bits lt low are = run-from whites bits (λ k. w
 
 pub columns-written : (p : Light) {x : ℕ} (whites : ℕ) (from to : List ℕ) → x < p.size.w → IsColumnOf p.size (white p) x whites
     → ((c : ℕ) → c < light_cells p → c % p.size.w < x → IsColumnRun p c (slice_index from c))
-    → AreWritten (has_bit whites) p.size.h x p.size.w p.size.h from to
+    → AreWordsWritten (has_bit whites) p.size.h x p.size.w p.size.h from to
     → (c : ℕ) → c < light_cells p → c % p.size.w < x + 1 → IsColumnRun p c (slice_index to c)
 columns-written p {x} whites from to low are before is c lt less = elim (cases_eq (c % p.size.w) x) [
   | inr other ↦ subst (IsColumnRun p c) (sym (is.others c (λ i _ e. other (apart i e)))) (before c lt (omega arith))

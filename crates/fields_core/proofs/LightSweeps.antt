@@ -1,6 +1,6 @@
 -- Light Up: what waits, and sweeps of its houses on planes.
-use Rattle.fields_core.proofs.Common.{AllByRecursion, AreIdle, AreIdleBut, AreLightsReady, AreLinesOf, AreLinesRested, AreLinesWoken, ArePlanesAlive, ArePlanesOf, AreSafe, AreVisited, Black, Bool, Candidates, CountHouse, HasBoard, IsAway, IsClosed, IsClosedAround, IsFurther, IsInside, IsLight, IsLostIn, IsReach, IsSweep, Layers, Light, LightCell, List, Numbered, RunKind, Touched, White, ℕ, after_houses, any_below, any_below-none, ap, append_assoc, arith, back_at, cases_Bool, cases_eq, column_house, common_steps, div-mul-add, eqb, eqb-true, exactly, false, false_from_ne_true, filter, get_or, has, has_bit, has_place, houses_below, inl, inr, joined_in_column, joined_in_row, light_cells, light_counts, light_houses, light_rules, lit_house, lits_of_row, mod-lt, ne_eqb, not, number_house, numbers_of_row, one_at_least, or_left, or_parts, or_right, place-back, place-column, place-filter, place-front, place-in, place-kept, refl, row_house, row_run, row_runs_of_row, run_houses, run_lines, seen_from, solves_lights, steps, suc, sym, true, true≢false, waiting_runs, white, white_houses, zero, ◌%◌, ◌&&◌, ◌*◌, ◌++◌, ◌+◌, ◌/◌, ◌<◌, ◌||◌, ◌∙◌, ◌≡◌, ◌≤◌, ◌⊎◌}
-use Rattle.fields_core.specs.declared.planes.light_up.waits.LineWaits.{LineWaits}
+use Rattle.fields_core.proofs.Common.{AllByRecursion, AreIdle, AreIdleBut, AreLightsReady, AreLinesOf, AreLightsRested, AreLightsWoken, ArePlanesAlive, ArePlanesOf, AreSafe, AreVisited, Black, Bool, Candidates, CountHouse, HasBoard, IsAway, IsClosed, IsClosedAround, IsFurther, IsInside, IsLight, IsLostIn, IsReach, IsSweep, Layers, Light, LightCell, List, Numbered, RunKind, Touched, White, ℕ, after_visits, any_below, any_below-none, ap, append_assoc, arith, back_at, cases_Bool, cases_eq, column_house, common_steps, div-mul-add, eqb, eqb-true, exactly, false, false_from_ne_true, filter, get_or, has, has_bit, has_place, houses_below, inl, inr, joined_in_column, joined_in_row, light_cells, light_counts, light_houses, light_rules, lit_house, lits_of_row, mod-lt, ne_eqb, not, number_house, numbers_of_row, one_at_least, or_left, or_parts, or_right, place-back, place-column, place-filter, place-front, place-in, place-kept, refl, row_house, row_run, row_runs_of_row, run_houses, run_lines, seen_from, solves_lights, steps, suc, sym, true, true≢false, waiting_runs, white, white_houses, zero, ◌%◌, ◌&&◌, ◌*◌, ◌++◌, ◌+◌, ◌/◌, ◌<◌, ◌||◌, ◌∙◌, ◌≡◌, ◌≤◌, ◌⊎◌}
+use Rattle.fields_core.specs.declared.planes.light_up.waits.LightWaits.{LightWaits}
 use Rattle.fields_core.specs.declared.planes.light_up.waits.RunKind.TheVariants.{Columns, Rows}
 unfoldable use Rattle.fields_core.proofs.IdleLemmas.{any_has}
 use Rattle.fields_core.proofs.IdleLemmas.{IsPartOf, any-below, any-none, any-one, below-idle, closed-idle, idle-far, idle-one, in-back, in-below, in-front}
@@ -39,7 +39,7 @@ module _ (p : Light) (lawful : IsLight p) (c : ℕ) (is_white : white p c ≡ tr
 -- ---- a run with two cells that can have a bulb, or one that must, leaves the houses of its cells idle
 run-safe : {p : Light} (c : ℕ) {K : Candidates} {joined : ℕ → Bool} → IsLight p → IsBinaryAlive (light_cells p) K
     → (white p c ≡ true → (d : ℕ) → joined d ≡ true → has_place (seen_from p c) d ≡ true) → AreSafe joined K → AreIdle (lit_house p c) K
-unfolding after_houses
+unfolding after_visits
 run-safe {p} c {K} lawful full seen safe = elim (cases_Bool (white p c)) [
   | inl on ↦ rw on (safe-stay K (lit-is lawful (inside p lawful c on) on) full safe.one safe.other (seen on safe.one safe.one_in)
       (seen on safe.other safe.other_in) safe.one_on safe.other_on safe.apart)
@@ -54,7 +54,7 @@ column-safe {p} c lawful full = run-safe c lawful full (seen-in-column p lawful 
 
 -- a black cell has no house
 pub black-idle : (p : Light) (c : ℕ) (K : Candidates) → white p c ≡ false → AreIdle (lit_house p c) K
-unfolding after_houses
+unfolding after_visits
 black-idle p c K off = rw off refl
 
 -- ---- on planes
@@ -89,10 +89,10 @@ pub lits-each : {p : Light} {c : ℕ} → IsLight p → c < light_cells p → Al
 lits-each {p} {c} lawful lt = all-if _ (λ on. record { is = lit-is lawful lt on; same = refl })
 
 -- ---- once cells of these lines have lost 0, and cells of those 1
-module _ {W : Type 0} (bits : W → ℕ) {room : ℕ} (p : Light) {before now : LineWaits W} {zeros ones : Touched W} (K L : Candidates)
+module _ {W : Type 0} (bits : W → ℕ) {room : ℕ} (p : Light) {before now : LightWaits W} {zeros ones : Touched W} (K L : Candidates)
     (lawful : IsLight p) (narrow : p.size.w ≤ room) (low : p.size.h ≤ room) (full : IsBinaryAlive (light_cells p) K) (still : IsBinaryAlive (light_cells p) L) (inside : IsInside L K)
     (lost_zero : IsLostIn bits p.size.w 0 K L zeros) (lost_one : IsLostIn bits p.size.w 1 K L ones)
-    (woken : AreLinesWoken bits room before zeros ones now) (rested : AreLinesRested bits p before K) where
+    (woken : AreLightsWoken bits room before zeros ones now) (rested : AreLightsRested bits p before K) where
   lost : (c v : ℕ) → v < 2 → K c v ≡ true → L c v ≡ false
       → ((has_bit (bits zeros.columns) (c % p.size.w) || has_bit (bits ones.columns) (c % p.size.w)) ≡ true)
       × ((has_bit (bits zeros.rows) (c / p.size.w) || has_bit (bits ones.rows) (c / p.size.w)) ≡ true)
@@ -135,22 +135,22 @@ module _ {W : Type 0} (bits : W → ℕ) {room : ℕ} (p : Light) {before now : 
       away d (lit-lies p c d there) (woken.one_columns _ ∙ or_right _ _ at.0, woken.one_rows _ ∙ or_right _ _ at.1)))
       (rested.whites c lt (λ d there at. away d there (woken.one_columns _ ∙ or_left _ _ at.0, woken.one_rows _ ∙ or_left _ _ at.1)))
 
-  pub lines-board : AreLinesRested bits p now L
+  pub lines-board : AreLightsRested bits p now L
   lines-board = record { numbers = numbers-rested; runs = runs-rested; columns = columns-rested; whites = whites-rested }
 
-pub lines-woken : {W : Type 0} (bits : W → ℕ) {room : ℕ} (p : Light) (zeros ones : Touched W) {from to : Layers} {len : ℕ} (before now : LineWaits W)
+pub lines-woken : {W : Type 0} (bits : W → ℕ) {room : ℕ} (p : Light) (zeros ones : Touched W) {from to : Layers} {len : ℕ} (before now : LightWaits W)
     → IsLostIn bits to.size.w 0 (back_at to len) (has to) zeros → IsLostIn bits to.size.w 1 (back_at to len) (has to) ones
     → ArePlanesOf room p to → ArePlanesOf room p from → from.len ≡ len → IsFurther from to
-    → AreLinesWoken bits room before zeros ones now → AreLinesRested bits p before (has from) → AreLinesRested bits p now (has to)
+    → AreLightsWoken bits room before zeros ones now → AreLightsRested bits p before (has from) → AreLightsRested bits p now (has to)
 lines-woken bits p zeros ones {from} {to} {len} before now lost_zeros lost_ones of was is further =
     lines-board bits p (has from) (has to) of.lawful of.narrow of.low (planes-full p from was.size was.alive) (planes-full p to of.size of.alive) further.inside
     (λ c on gone. rw (of.size) at (lost_zeros c (rw (back-whole is further) on) gone)) (λ c on gone. rw (of.size) at (lost_ones c (rw (back-whole is further) on) gone))
 
 -- ---- where all cells may have lost values
-pub lines-all : {W : Type 0} (bits : W → ℕ) {room : ℕ} (p : Light) (waits : LineWaits W) (K : Candidates) → IsLight p → p.size.w ≤ room → p.size.h ≤ room
+pub lines-all : {W : Type 0} (bits : W → ℕ) {room : ℕ} (p : Light) (waits : LightWaits W) (K : Candidates) → IsLight p → p.size.w ≤ room → p.size.h ≤ room
     → ((k : ℕ) → k < room → has_bit (bits waits.numbers) k ≡ true) → ((k : ℕ) → k < room → has_bit (bits waits.number_columns) k ≡ true)
     → ((k : ℕ) → k < room → has_bit (bits waits.rows) k ≡ true) → ((k : ℕ) → k < room → has_bit (bits waits.columns) k ≡ true)
-    → ((y x : ℕ) → y < room → x < room → AreLinesOf bits waits.ones y x) → AreLinesRested bits p waits K
+    → ((y x : ℕ) → y < room → x < room → AreLinesOf bits waits.ones y x) → AreLightsRested bits p waits K
 lines-all bits p waits K lawful narrow low numbers number_columns rows columns ones = record {
   numbers = λ y lt off. absurd (true≢false (sym (numbers y (omega (arith, lt, low))) ∙ off));
   runs = by;
@@ -190,7 +190,7 @@ module _ (p : Light) (K : Candidates) (closed : IsClosed (light_rules p) K) wher
       (in-back (houses_below (number_house p) (light_cells p)) (in-back (houses_below (row_house p) (light_cells p))
       (in-back (houses_below (column_house p) (light_cells p)) (in-below (lit_house p) lt))))
 
-  closed-rested : {W : Type 0} (bits : W → ℕ) (none : LineWaits W) → AreLinesRested bits p none K
+  closed-rested : {W : Type 0} (bits : W → ℕ) (none : LightWaits W) → AreLightsRested bits p none K
   closed-rested bits none = record {
     numbers = λ k lt off. numbers-part (numbers_of_row p k) (rw (numbers-are p) at (in-below (numbers_of_row p) lt));
     runs = λ kind k lt off. runs-idle kind k lt;
@@ -200,21 +200,21 @@ module _ (p : Light) (K : Candidates) (closed : IsClosed (light_rules p) K) wher
   }
 
 -- a closing begins at a cell, which has lost a value
-pub lines-at : {W : Type 0} {bits : W → ℕ} {room : ℕ} {p : Light} {planes : Layers} {place : ℕ} {none now : LineWaits W} {zeros ones : Touched W}
+pub lines-at : {W : Type 0} {bits : W → ℕ} {room : ℕ} {p : Light} {planes : Layers} {place : ℕ} {none now : LightWaits W} {zeros ones : Touched W}
     → ArePlanesOf room p planes → IsClosedAround (light_rules p) (has planes) place
     → (has planes place 0 ≡ false → AreLinesOf bits zeros (place / p.size.w) (place % p.size.w))
     → (has planes place 1 ≡ false → AreLinesOf bits ones (place / p.size.w) (place % p.size.w))
-    → AreLinesWoken bits room none zeros ones now → AreLinesRested bits p now (has planes)
+    → AreLightsWoken bits room none zeros ones now → AreLightsRested bits p now (has planes)
 lines-at {W = W} {bits} {p} {planes} {place} {none} {zeros} {ones} of around no_zero no_one woken =
     lines-board bits p around.before (has planes) of.lawful of.narrow of.low (full-before (light_counts p) around) (planes-full p planes of.size of.alive)
     (around-inside (light_counts p) around) (around-lost (light_counts p) around bits p.size.w 0 zeros no_zero) (around-lost (light_counts p) around bits p.size.w 1 ones no_one) woken
     (closed-rested p around.before around.closed bits none)
 
 -- ---- the last row whose numbers wait is settled
-module _ {W : Type 0} (bits : W → ℕ) (p : Light) (before now : LineWaits W) (room y : ℕ) (K : Candidates)
+module _ {W : Type 0} (bits : W → ℕ) (p : Light) (before now : LightWaits W) (room y : ℕ) (K : Candidates)
     (numbers : (k : ℕ) → has_bit (bits now.numbers) k ≡ (has_bit (bits before.numbers) k && not (eqb k y)))
     (rows : now.rows ≡ before.rows) (columns : now.columns ≡ before.columns) (ones : now.ones ≡ before.ones)
-    (rested : AreLinesRested bits p before K) (idle : AreIdle (numbers_of_row p y) K) where
+    (rested : AreLightsRested bits p before K) (idle : AreIdle (numbers_of_row p y) K) where
   runs-settled : (kind : RunKind) (k : ℕ) → k < run_lines p kind → has_bit (waiting_runs bits now kind) k ≡ false → AreIdle (run_houses p kind k) K
   runs-settled Rows k lt off = rested.runs Rows k lt (rw rows at off)
   runs-settled Columns k lt off = rested.runs Columns k lt (rw columns at off)
@@ -222,7 +222,7 @@ module _ {W : Type 0} (bits : W → ℕ) (p : Light) (before now : LineWaits W) 
   numbers-settled : (k : ℕ) → k < p.size.h → has_bit (bits now.numbers) k ≡ false → AreIdle (numbers_of_row p k) K
   numbers-settled k lt off = grind (arith, common_steps, cases_Bool, eqb-true, first-off)
 
-  pub last-settled : p.size.h ≤ room → any_below (has_bit (bits now.numbers)) room ≡ false → AreLinesRested bits p now K
+  pub last-settled : p.size.h ≤ room → any_below (has_bit (bits now.numbers)) room ≡ false → AreLightsRested bits p now K
   last-settled low none = record {
     numbers = numbers-settled;
     runs = runs-settled;
@@ -327,7 +327,7 @@ planes-next of further alive = grind (arith, common_steps)
 -- what does not wait is idle again
 pub ready-next : {W : Type 0} {bits : W → ℕ} {room : ℕ} {p : Light} {from to : Layers} {notes : LightNotes W} → AreLightsReady bits room p from notes
     → IsFurther from to → ArePlanesAlive to → (now : LightNotes W) → now.tables ≡ notes.tables
-    → AreLinesRested bits p now.waits (has to) → AreLightsReady bits room p to now
+    → AreLightsRested bits p now.waits (has to) → AreLightsReady bits room p to now
 ready-next {bits = bits} {room = room} {p = p} ready further alive now tables rested = grind (arith, common_steps, planes-next)
 
 -- ---- what a closing asks of planes

@@ -1,5 +1,5 @@
 -- Visits of count houses by pieces of lines.
-use Rattle.fields_core.proofs.Common.{ArePartsCounted, ArePieces, ArePlanesAlive, Bool, Candidates, CountHouse, Extent, IsBroken, IsCount, IsHouseOf, IsTally, Layers, List, Piece, add-one, after_house, and-false, and-true, and_comm, and_from, and_parts, any_below, any_below-some, ap, arith, at_line, cases_Bool, cases_eq, cells_of, common_steps, count_below, count_below-bound, count_below-none, count_below-pos, count_below-same, count_by, covers, crosses, distinct-from, eq-eqb, eqb, false, false_from_ne_true, fun_ext, has, has_bit, has_place, has_place-at, inl, inr, is_empty, is_open, le-ltb, length, lies_in, lies_in_first, line_len, lines_beside, lt-ltb, ltb, ltb-true, ne_eqb, not, number_of, piece_at, refl, slice_index, suc, sym, true, without_taking, without_value, zero, ℕ, ◌%◌, ◌&&◌, ◌+◌, ◌-◌, ◌/◌, ◌<◌, ◌||◌, ◌∙◌, ◌≡◌, ◌≢◌, ◌≤◌, ◌⊎◌}
+use Rattle.fields_core.proofs.Common.{ArePartsCounted, ArePieces, ArePlanesAlive, Bool, Candidates, CountHouse, Extent, IsBroken, IsCount, IsHouseOfPieces, IsTally, Layers, List, Piece, add-one, after_house, and-false, and-true, and_comm, and_from, and_parts, any_below, any_below-some, ap, arith, at_line, cases_Bool, cases_eq, cells_of, common_steps, count_below, count_below-bound, count_below-none, count_below-pos, count_below-same, count_by, covers, crosses, distinct-from, eq-eqb, eqb, false, false_from_ne_true, fun_ext, has, has_bit, has_place, has_place-at, inl, inr, is_empty, is_open, le-ltb, length, lies_in, lies_in_first, line_len, lines_beside, lt-ltb, ltb, ltb-true, ne_eqb, not, number_of, piece_at, refl, slice_index, suc, sym, true, without_taking, without_value, zero, ℕ, ◌%◌, ◌&&◌, ◌+◌, ◌-◌, ◌/◌, ◌<◌, ◌||◌, ◌∙◌, ◌≡◌, ◌≢◌, ◌≤◌, ◌⊎◌}
 use Rattle.fields_core.proofs.CountKept.{after-at, off-scope}
 use Rattle.fields_core.proofs.CellLemmas.{count-apart, line-count, crosses-both, place-count}
 
@@ -96,7 +96,7 @@ counted-fewer {p} {pieces} alive counted =
     omega (arith, counted.may_is, counted.undecided_is, count-split (lies_in_first p.size.w pieces (length pieces)) (λ c. has p c 0) (λ c. has p c 1) (cells_of p) alive)
 
 tally-of : (p : Layers) {pieces : List Piece} {may undecided least most : ℕ} {house : CountHouse}
-    → ArePlanesAlive p → ArePartsCounted p pieces may undecided → IsHouseOf p.size pieces least most house
+    → ArePlanesAlive p → ArePartsCounted p pieces may undecided → IsHouseOfPieces p.size pieces least most house
     → IsTally (has p) house.places (record { must = may - undecided; may = may; empty = 0 })
 tally-of p {pieces} {house} alive counted of =
     let inside = lies_in_first p.size.w pieces (length pieces) in let distinct = distinct-from house.places of.is.different in
@@ -124,7 +124,7 @@ at_bound least most must may v = (eqb v 1 && eqb must most) || (eqb v 0 && eqb m
 
 module _ (p : Layers) (pieces : List Piece) (may undecided least most : ℕ) (alive : ArePlanesAlive p)
     (counted : ArePartsCounted p pieces may undecided) (order : least ≤ most)
-    (house : CountHouse) (of : IsHouseOf p.size pieces least most house) where
+    (house : CountHouse) (of : IsHouseOfPieces p.size pieces least most house) where
   abbrev inside : ℕ → Bool
   inside = lies_in_first p.size.w pieces (length pieces)
 
@@ -186,7 +186,7 @@ module _ (p : Layers) (pieces : List Piece) (may undecided least most : ℕ) (al
 
 -- where nothing is undecided, no cell is
 pub none-undecided : {p : Layers} {pieces : List Piece} {may undecided : ℕ} (c : ℕ) {least most : ℕ} (at : Bool)
-    {house : CountHouse} → IsHouseOf p.size pieces least most house
+    {house : CountHouse} → IsHouseOfPieces p.size pieces least most house
     → ArePartsCounted p pieces may undecided → undecided ≡ 0
     → (lies_in_first p.size.w pieces (length pieces) c && (is_open (has p) c && at)) ≡ false
 none-undecided {p} {pieces} c at of counted none = false_from_ne_true _ (λ on.

@@ -1,5 +1,5 @@
 -- Sweeps of planes, closings by them, and lines that wait.
-use Rattle.fields_core.proofs.Common.{AreHouses, AreLinesOf, AreMet, ArePlanesAlive, AreSpread, AreVisited, Bool, Candidates, CountHouse, CountPuzzle, Dead, IsClosedAround, IsClosedGrid, IsClosing, IsCounting, IsFurther, IsInside, IsLostIn, IsSweep, IsWithin, Layers, List, Open, RuleSystem, Touched, [], after_houses, and_parts, ap, arith, back_at, by_fillings-met, cases_Bool, cases_eq, cells_of, common_steps, count-lawful, count_below, count_below-pos, count_house_of, count_puzzle, counts_between, false, false_from_ne_true, further-more, further-none, has, has_bit, has_place-here, inl, inr, is_dead, is_dead-each, is_dead-here, is_dead-not, lt-ltb, ltb, max, max_cells, meets, only-inside, only-other, or_parts, refl, rules_of, single-at, slice_index, start_of, strikes_of, swept_by, sym, total, true, true≢false, within_inside, ℕ, ◌%◌, ◌&&◌, ◌*◌, ◌+◌, ◌-◌, ◌/◌, ◌<◌, ◌∙◌, ◌≡◌, ◌≤◌, ◌⊎◌}
+use Rattle.fields_core.proofs.Common.{AreHouses, AreLinesOf, AreMet, ArePlanesAlive, AreSpread, AreVisited, Bool, Candidates, CountHouse, CountPuzzle, Dead, IsClosedAround, IsClosedGrid, IsClosing, IsCounting, IsFurther, IsInside, IsLostIn, IsSweep, IsWithin, Layers, List, Open, RuleSystem, Touched, [], after_visits, and_parts, ap, arith, back_at, by_fillings-met, cases_Bool, cases_eq, cells_of, common_steps, count-lawful, count_below, count_below-pos, count_house_of, count_puzzle, counts_between, false, false_from_ne_true, further-more, further-none, has, has_bit, has_place-here, inl, inr, is_dead, is_dead-each, is_dead-here, is_dead-not, lt-ltb, ltb, max, max_cells, meets_house, only-inside, only-other, or_parts, refl, rules_of, single-at, slice_index, start_of, strikes_of, swept_by, sym, total, true, true≢false, within_inside, ℕ, ◌%◌, ◌&&◌, ◌*◌, ◌+◌, ◌-◌, ◌/◌, ◌<◌, ◌∙◌, ◌≡◌, ◌≤◌, ◌⊎◌}
 use Rattle.engine_core.proofs.SweepLemmas.{IsSwept, fewer, sweep-shut, swept-dead, swept-first, swept-idle, swept-turn}
 use Rattle.fields_core.proofs.VisitLemmas.{IsBinaryAlive, replay-visits}
 use Rattle.engine_core.proofs.QueueLemmas.{alive_around}
@@ -45,8 +45,8 @@ module _ (cells : ℕ) (blocked : ℕ → Bool) (houses : List CountHouse) (is_s
       record {
         left = λ e. visited.left e ∙ sym is;
         dies = λ e. let w = visited.dies e in rw is
-            (is_dead-here cells 2 (after_houses houses (has from)) w.0 (rw size at w.1)
-            (none-counted (after_houses houses (has from)) w.0 w.2));
+            (is_dead-here cells 2 (after_visits houses (has from)) w.0 (rw size at w.1)
+            (none-counted (after_visits houses (has from)) w.0 w.2));
         alive = visited.alive;
         further = visited.further;
       }
@@ -90,7 +90,7 @@ module _ (cells : ℕ) (blocked : ℕ → Bool) (houses : List CountHouse) (is_s
 -- ---- closed grids
 -- a grid from which no house strikes anything meets each house with a cell
 pub closed-met : (p : CountPuzzle) {g : List ℕ} → AreHouses p.cells p.houses → IsClosedGrid (rules_of p) g → AreMet p g
-unfolding start_of meets strikes_of
+unfolding start_of meets_house strikes_of
 closed-met p {g} houses grid = record {
   blocked_zero = λ c lt blocked.
       grind (arith, common_steps, grid.inside c (slice_index g c) (single-at g c (omega (arith, grid.fits.each_cell))), and_parts, grid.fits.each_value c 0);

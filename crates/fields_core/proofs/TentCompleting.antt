@@ -1,5 +1,5 @@
 -- A grid of Tents that meets each house with a cell is a solution exactly if its tents and trees can be paired.
-use Rattle.fields_core.proofs.Common.{AreMet, IsGrid, IsTents, List, Tents, all_below-from, and_from, and_parts, any_below-some, ap, arith, can_be_paired, cases_Bool, cases_lt, column_of_tents, column_places, column_right, count_by, eq-eqb, eqb, exactly, false_from_ne_true, houses_below, inl, inr, is_barred, leb-true, lt-ltb, map, meets, mod-lt, nonzeros, not, not-true, one_at_most, or_left, or_right, refl, row_of_tents, row_places, row_right, slice_index, solves_tents, square_house, sym, tent, tent_cells, tent_counts, tent_houses, touch_right, touches, tree, tree_house, tree_right, true, true≢false, ℕ, ◌%◌, ◌*◌, ◌+◌, ◌-◌, ◌/◌, ◌<◌, ◌||◌, ◌∙◌, ◌≡◌, ◌≤◌}
+use Rattle.fields_core.proofs.Common.{AreMet, IsGrid, IsTents, List, Tents, all_below-from, and_from, and_parts, any_below-some, ap, arith, can_be_paired, cases_Bool, cases_lt, column_of_tents, column_places, column_right, count_by, eq-eqb, eqb, exactly, false_from_ne_true, houses_below, inl, inr, is_barred, leb-true, lt-ltb, map, meets_house, mod-lt, nonzeros, not, not-true, one_at_most, or_left, or_right, refl, row_of_tents, row_places, row_right, slice_index, solves_tents, square_house, sym, tent, tent_cells, tent_counts, tent_houses, touch_right, touches, tree, tree_house, tree_right, true, true≢false, ℕ, ◌%◌, ◌*◌, ◌+◌, ◌-◌, ◌/◌, ◌<◌, ◌||◌, ◌∙◌, ◌≡◌, ◌≤◌}
 use Rattle.fields_core.proofs.HouseLemmas.{row-long, column-long}
 use Rattle.fields_core.proofs.LightHouseLaws.{small-at}
 use Rattle.fields_core.proofs.PlaceLists.{count-two, ones-bulbs}
@@ -57,8 +57,8 @@ module _ (p : Tents) (g : List ℕ) (is : IsTents p) (grid : IsGrid (tent_cells 
   ]
 
   -- ---- lines
-  exact : (n : ℕ) (places : List ℕ) → meets (exactly n places) g ≡ true → eqb (count_by (tent g) places) n ≡ true
-  unfolding meets
+  exact : (n : ℕ) (places : List ℕ) → meets_house (exactly n places) g ≡ true → eqb (count_by (tent g) places) n ≡ true
+  unfolding meets_house
   exact n places on =
       let parts = and_parts _ _ on in let least = leb-true n (nonzeros (map (slice_index g) places)) parts.0 in
       let most = leb-true (nonzeros (map (slice_index g) places)) n parts.1 in
@@ -78,7 +78,7 @@ module _ (p : Tents) (g : List ℕ) (is : IsTents p) (grid : IsGrid (tent_cells 
       (among-below _ (row_of_tents p) lt (among-one _)))) (omega (arith, row-long p.size y, is.size.w_two)))
 
   -- ---- squares
-  square-met : (c : ℕ) → c < tent_cells p → c % p.size.w + 1 < p.size.w → c / p.size.w + 1 < p.size.h → meets (one_at_most (square_places p.size.w c)) g ≡ true
+  square-met : (c : ℕ) → c < tent_cells p → c % p.size.w + 1 < p.size.w → c / p.size.w + 1 < p.size.h → meets_house (one_at_most (square_places p.size.w c)) g ≡ true
   unfolding tent_houses
   square-met c lt wide tall = among-met met (among-back (houses_below (column_of_tents p) p.size.w)
       (among-back (houses_below (row_of_tents p) p.size.h) (among-back (houses_below (tree_house p) (tent_cells p))
@@ -86,7 +86,7 @@ module _ (p : Tents) (g : List ℕ) (is : IsTents p) (grid : IsGrid (tent_cells 
 
   -- two tents that touch would stand in one square
   apart : (c d : ℕ) → c < tent_cells p → d < tent_cells p → tent g c ≡ true → tent g d ≡ true → touches p.size c d ≡ true → ⊥
-  unfolding touches meets
+  unfolding touches meets_house
   apart c d lc ld tc td on =
       let w = p.size.w in let some : 0 < p.size.w = omega (arith, is.size.w_two) in
       let parts = and_parts (not (eqb c d)) _ on in let near = and_parts _ _ parts.1 in

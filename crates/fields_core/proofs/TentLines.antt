@@ -220,27 +220,27 @@ none-some : (d : ℕ) → None ≡ Some d → ⊥
 none-some d e = grind (arith, common_steps)
 
 -- no tree in the first n directions has the number `from` or a later one
-pub record IsPassed (p : Tents) (c from n : ℕ) : Type 0 where
+pub record AreDirectionsPassed (p : Tents) (c from n : ℕ) : Type 0 where
   pub none : (k d : ℕ) → k < n → step p.size c k ≡ Some d → tree p d ≡ true → count_below (tree p) d < from
 
-pub passed-start : (p : Tents) (c from : ℕ) → IsPassed p c from 0
+pub passed-start : (p : Tents) (c from : ℕ) → AreDirectionsPassed p c from 0
 passed-start p c from = record { none = λ k d lt e on. absurd (omega arith) }
 
-pub passed-edge : (p : Tents) (c from n : ℕ) → IsPassed p c from n → None ≡ step p.size c n → IsPassed p c from (n + 1)
+pub passed-edge : (p : Tents) (c from n : ℕ) → AreDirectionsPassed p c from n → None ≡ step p.size c n → AreDirectionsPassed p c from (n + 1)
 passed-edge p c from n before edge = grind (arith, common_steps, cases_eq, none-some)
 
-pub passed-bare : (p : Tents) (c from n other : ℕ) → IsPassed p c from n → Some other ≡ step p.size c n → tree p other ≡ false → IsPassed p c from (n + 1)
+pub passed-bare : (p : Tents) (c from n other : ℕ) → AreDirectionsPassed p c from n → Some other ≡ step p.size c n → tree p other ≡ false → AreDirectionsPassed p c from (n + 1)
 passed-bare p c from n other before at off = grind (arith, common_steps, cases_eq, some-inj)
 
-pub passed-early : (p : Tents) (c from n other number : ℕ) → IsPassed p c from n
+pub passed-early : (p : Tents) (c from n other number : ℕ) → AreDirectionsPassed p c from n
     → Some other ≡ step p.size c n → number ≡ count_below (tree p) other → number < from
-    → IsPassed p c from (n + 1)
+    → AreDirectionsPassed p c from (n + 1)
 passed-early p c from n other number before at is early = grind (arith, common_steps, cases_eq, some-inj)
 
-pub next-none : (p : Tents) (c from n : ℕ) → IsPassed p c from n → 4 ≤ n → IsNext (tree_beside p c) (tree_count p) from None
+pub next-none : (p : Tents) (c from n : ℕ) → AreDirectionsPassed p c from n → 4 ≤ n → IsNext (tree_beside p c) (tree_count p) from None
 next-none p c from n passed all = grind (arith, common_steps, false_from_ne_true, passing-at, passing-long, steps-some, slice_index)
 
-pub next-found : {p : Tents} {c from n other number : ℕ} → 2 ≤ p.size.w → IsPassed p c from n
+pub next-found : {p : Tents} {c from n other number : ℕ} → 2 ≤ p.size.w → AreDirectionsPassed p c from n
     → n < 4 → Some other ≡ step p.size c n → other < tent_cells p → tree p other ≡ true
     → number ≡ count_below (tree p) other → from ≤ number
     → IsNext (tree_beside p c) (tree_count p) from (Some number)

@@ -1,5 +1,5 @@
 -- What visits of the trees of a row take from a board.
-use Rattle.fields_core.proofs.Common.{ArePlanesAlive, AreVisited, Bool, Candidates, CountHouse, IsFurther, IsHouse, IsInside, IsRowOf, IsTents, Layers, List, Tents, [], after_house, after_houses, and-true, and_parts, any_below, any_below-none, any_below-same, any_below-some, ap, arith, beside, cases_Bool, common_steps, count_by, count_by-le-length, eqb, false, false_from_ne_true, filter, free_beside, fun_ext, has, has_bit, has_place, has_place-here, houses_below, inl, inr, is_beside, length, length-filter, list_any, lt-ltb, ltb, ltb-false, ltb-true, not, not-false, not-true, one_at_least, place-in, refl, slice_index, suc, sym, tent_cells, tree, tree_house, trees_of_row, true, true≢false, wants_tent, without_zeros, zero, ℕ, ◌&&◌, ◌*◌, ◌++◌, ◌+◌, ◌-◌, ◌<◌, ◌||◌, ◌∙◌, ◌∷◌, ◌≡◌, ◌≤◌, ◌⊎◌}
+use Rattle.fields_core.proofs.Common.{ArePlanesAlive, AreVisited, Bool, Candidates, CountHouse, IsFurther, IsHouse, IsInside, IsRowOf, IsTents, Layers, List, Tents, [], after_house, after_visits, and-true, and_parts, any_below, any_below-none, any_below-same, any_below-some, ap, arith, beside, cases_Bool, common_steps, count_by, count_by-le-length, eqb, false, false_from_ne_true, filter, free_beside, fun_ext, has, has_bit, has_place, has_place-here, houses_below, inl, inr, is_beside, length, length-filter, list_any, lt-ltb, ltb, ltb-false, ltb-true, not, not-false, not-true, one_at_least, place-in, refl, slice_index, suc, sym, tent_cells, tree, tree_house, trees_of_row, true, true≢false, wants_tent, without_zeros, zero, ℕ, ◌&&◌, ◌*◌, ◌++◌, ◌+◌, ◌-◌, ◌<◌, ◌||◌, ◌∙◌, ◌∷◌, ◌≡◌, ◌≤◌, ◌⊎◌}
 use Rattle.fields_core.proofs.PartLemmas.{value-in}
 use Rattle.fields_core.proofs.PlaceLists.{count-cons, count-none, count-some, filter-has}
 use Rattle.fields_core.proofs.TentCounting.{tree-is}
@@ -72,26 +72,26 @@ module _ (p : Tents) (lawful : IsTents p) (K : Candidates) (y : ℕ) (y_in : y <
       by : (k z o f s : Bool) → (k && not (z && ((f && o) && s))) ≡ (k && not (z && ((f && o) && (s || false))))
       by k z o f s = grind (arith, common_steps, cases_Bool s)
 
-  next-visit : (n : ℕ) → n < p.size.w → AreFilled p K y (suc n) → after_houses (tree_house p (cell n)) (without_zeros (struck p K y n) K) ≡ without_zeros (struck p K y (suc n)) K
-  unfolding after_houses
+  next-visit : (n : ℕ) → n < p.size.w → AreFilled p K y (suc n) → after_visits (tree_house p (cell n)) (without_zeros (struck p K y n) K) ≡ without_zeros (struck p K y (suc n)) K
+  unfolding after_visits
   next-visit n lt filled = grind (arith, common_steps, cases_Bool, next-tree, next-bare)
 
-  pub trees-board : (n : ℕ) → n ≤ p.size.w → AreFilled p K y n → after_houses (houses_below (λ x. tree_house p (cell x)) n) K ≡ without_zeros (struck p K y n) K
-  unfolding houses_below after_houses without_zeros is_beside any_below
+  pub trees-board : (n : ℕ) → n ≤ p.size.w → AreFilled p K y n → after_visits (houses_below (λ x. tree_house p (cell x)) n) K ≡ without_zeros (struck p K y n) K
+  unfolding houses_below after_visits without_zeros is_beside any_below
   trees-board zero le filled = fun_ext λ c. fun_ext λ v. grind (arith, common_steps, cases_Bool)
   trees-board (suc n) le filled = grind (arith, common_steps, visits-append, next-visit, trees-board n (omega arith) (λ x lt. filled x (omega arith)))
 
   -- a tree whose free cells can have no tent
   pub trees-dead : {x : ℕ} (d : ℕ) {v : ℕ} → x < p.size.w → tree p (cell x) ≡ true → may p K y x ≡ 0 → has_place (free_beside p (cell x)) d ≡ true → v < 2
-      → after_houses (trees_of_row p y) K d v ≡ false
-  unfolding after_houses
+      → after_visits (trees_of_row p y) K d v ≡ false
+  unfolding after_visits
   trees-dead {x} d {v} lt is none there low =
       let f : ℕ → List CountHouse = (λ k. tree_house p (cell k)) in
-      let J = after_houses (houses_below f x) K in let w = below-rest f (x + 1) (p.size.w - (x + 1)) in
+      let J = after_visits (houses_below f x) K in let w = below-rest f (x + 1) (p.size.w - (x + 1)) in
       let e : x + 1 + (p.size.w - (x + 1)) ≡ p.size.w = omega arith in
       let split : trees_of_row p y ≡ (houses_below f x ++ f x) ++ w.0 = ap (houses_below f) (sym e) ∙ w.1 ∙ ap (λ (hs : List CountHouse). hs ++ w.0) (below-more f x) in
       let fewer : count_by (λ c. J c 1) (free_beside p (cell x)) ≡ 0 = count-none (λ c. J c 1) (free_beside p (cell x)) (λ c at. false_from_ne_true _ (λ on. absurd (omega (arith, none, count-some (λ c. K c 1) (free_beside p (cell x)) c at (visits-inside (houses_below f x) K c 1 on))))) in
-      false_from_ne_true _ (λ on. true≢false (sym (visits-inside w.0 (after_houses (f x) J) d v (rw (split, visits-append (houses_below f x ++ f x) w.0 K, visits-append (houses_below f x) (f x) K) at on))
+      false_from_ne_true _ (λ on. true≢false (sym (visits-inside w.0 (after_visits (f x) J) d v (rw (split, visits-append (houses_below f x ++ f x) w.0 K, visits-append (houses_below f x) (f x) K) at on))
       ∙ rw is (least-broken (free_beside p (cell x)) J (house-in lt is) fewer d there low)))
 
 -- ---- the planes

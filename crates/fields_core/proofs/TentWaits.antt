@@ -1,5 +1,5 @@
 -- Tents on planes: what waits, and what a closing asks.
-use Rattle.fields_core.proofs.Common.{AllByRecursion, AreBare, AreIdle, AreLinesOf, ArePlanes, ArePlanesAlive, AreTentsRested, AreTentsWoken, AreTentsWritten, AreVisited, Bool, Candidates, Columns, CountHouse, HasBoard, IsClosed, IsClosedAround, IsClosedBut, IsFieldOf, IsFurther, IsHouse, IsInside, IsLostIn, IsSweep, IsTents, Layers, List, Option, Rows, Some, Squares, Tents, Touched, Trees, Waits, [], all_of, all_of_kind, and_parts, ap, append_assoc, arith, back_at, cases_Bool, cases_eq, cells_of, column_of_tents, column_places, common_steps, eqb, eqb-true, exactly, false, false_from_ne_true, free_beside, get_or, get_or-append_right, has, has_bit, houses_below, inl, inr, is_barred, kind_houses, kind_lines, length, length-append, lt-ltb, ltb, ltb-true, map, needs_of, no_count_house, not, one_at_least, one_at_most, or_cases, or_left, or_parts, place-filter, place-in, refl, row_of_tents, row_places, slice_index, solves_tents, square_house, squares_of_row, start_of, suc, sym, tent_cells, tent_counts, tent_houses, tent_rules, tree, tree_house, trees_of_row, true, true≢false, waiting, zero, ℕ, ◌%◌, ◌&&◌, ◌*◌, ◌++◌, ◌+◌, ◌-◌, ◌/◌, ◌<◌, ◌∙◌, ◌∷◌, ◌≡◌, ◌≤◌, ◌⊎◌}
+use Rattle.fields_core.proofs.Common.{AllByRecursion, AreBare, AreIdle, AreLinesOf, ArePlanes, ArePlanesAlive, AreTentsRested, AreTentsWoken, AreTentsWritten, AreVisited, Bool, Candidates, Columns, CountHouse, HasBoard, IsClosed, IsClosedAround, IsClosedBut, IsFieldOf, IsFurther, IsHouse, IsInside, IsLostIn, IsSweep, IsTents, Layers, List, Option, Rows, Some, Squares, Tents, Touched, Trees, TentWaits, [], all_of, all_of_kind, and_parts, ap, append_assoc, arith, back_at, cases_Bool, cases_eq, cells_of, column_of_tents, column_places, common_steps, eqb, eqb-true, exactly, false, false_from_ne_true, free_beside, get_or, get_or-append_right, has, has_bit, houses_below, inl, inr, is_barred, kind_houses, kind_lines, length, length-append, lt-ltb, ltb, ltb-true, map, needs_of, no_count_house, not, one_at_least, one_at_most, or_cases, or_left, or_parts, place-filter, place-in, refl, row_of_tents, row_places, slice_index, solves_tents, square_house, squares_of_row, start_of, suc, sym, tent_cells, tent_counts, tent_houses, tent_rules, tree, tree_house, trees_of_row, true, true≢false, waiting, zero, ℕ, ◌%◌, ◌&&◌, ◌*◌, ◌++◌, ◌+◌, ◌-◌, ◌/◌, ◌<◌, ◌∙◌, ◌∷◌, ◌≡◌, ◌≤◌, ◌⊎◌}
 use Rattle.fields_core.specs.declared.planes.tents.waits.Kind.{Kind}
 use Rattle.fields_core.proofs.HouseOrder.{IsSingle, single-keeps, singles-kept}
 use Rattle.fields_core.proofs.VisitLemmas.{IsBinaryAlive}
@@ -70,7 +70,7 @@ minds Trees v = eqb v 1
 minds Squares v = eqb v 0
 
 -- where houses that mind the value do not wait, none of them has the cell
-abbrev pub AreOff : {W : Type 0} → (W → ℕ) → Tents → Waits W → ℕ → ℕ → Type 0
+abbrev pub AreOff : {W : Type 0} → (W → ℕ) → Tents → TentWaits W → ℕ → ℕ → Type 0
 AreOff bits p now v c = (kind : Kind) (k : ℕ) → k < kind_lines p kind → has_bit (waiting bits now kind) k ≡ false → minds kind v ≡ true
     → any_has (kind_houses p kind k) c ≡ false
 
@@ -78,7 +78,7 @@ abbrev pub lines_of : {W : Type 0} → Touched W → Touched W → ℕ → Touch
 lines_of zeros ones zero = zeros
 lines_of zeros ones (suc v) = ones
 
-module _ {W : Type 0} (bits : W → ℕ) {room : ℕ} (p : Tents) {before now : Waits W} {zeros ones : Touched W}
+module _ {W : Type 0} (bits : W → ℕ) {room : ℕ} (p : Tents) {before now : TentWaits W} {zeros ones : Touched W}
     (pos : 0 < p.size.w) (low : p.size.h ≤ room) (woken : AreTentsWoken bits room before zeros ones now) where
   pub woken-off : {v : ℕ} (c : ℕ) → v < 2 → AreLinesOf bits (lines_of zeros ones v) (c / p.size.w) (c % p.size.w) → AreOff bits p now v c
   woken-off {v} c small on kind k lt off mind = false_from_ne_true _ (by v small kind on lt off mind)
@@ -124,7 +124,7 @@ squares-each {p} {y} lawful lt = all-houses (IsSingle (tent_cells p)) (λ x. squ
     }))
 
 -- what does not wait on a board stays idle once cells of these lines have lost values
-pub rested-board : {W : Type 0} {bits : W → ℕ} {room : ℕ} {p : Tents} {before now : Waits W} {zeros ones : Touched W} {K L : Candidates}
+pub rested-board : {W : Type 0} {bits : W → ℕ} {room : ℕ} {p : Tents} {before now : TentWaits W} {zeros ones : Touched W} {K L : Candidates}
     → IsTents p → p.size.h ≤ room → AreTentsWoken bits room before zeros ones now → IsBinaryAlive (tent_cells p) K → IsBinaryAlive (tent_cells p) L → IsInside L K
     → IsLostIn bits p.size.w 0 K L zeros → IsLostIn bits p.size.w 1 K L ones → AreTentsRested bits p before K → AreTentsRested bits p now L
 unfolding any_has
@@ -154,7 +154,7 @@ rested-board {bits} {room} {p} {before} {now} {zeros} {ones} {K} {L} lawful low 
     by Trees lt off idle = alls-kept (tent_cells p) (trees_of_row p k) K L (trees-each lawful lt) full still inside (λ c. kept Trees 1 c lt off refl) idle
     by Squares lt off idle = singles-kept (tent_cells p) (squares_of_row p k) K L (squares-each lawful lt) full still inside (λ c. kept Squares 0 c lt off refl) idle
 
-pub rested-woken : {W : Type 0} {bits : W → ℕ} {room : ℕ} {p : Tents} {before now : Waits W} {zeros ones : Touched W} {from to : Layers} {len : ℕ}
+pub rested-woken : {W : Type 0} {bits : W → ℕ} {room : ℕ} {p : Tents} {before now : TentWaits W} {zeros ones : Touched W} {from to : Layers} {len : ℕ}
     → ArePlanes room to → IsLostIn bits to.size.w 0 (back_at to len) (has to) zeros → IsLostIn bits to.size.w 1 (back_at to len) (has to) ones
     → AreTentsWoken bits room before zeros ones now → IsTents p → from.size ≡ p.size → from.len ≡ len → ArePlanesAlive from → ArePlanesAlive to → IsFurther from to
     → AreTentsRested bits p before (has from) → AreTentsRested bits p now (has to)
@@ -178,12 +178,12 @@ part-kind p Squares k lt = in-back (houses_below (column_of_tents p) p.size.w) (
     (in-back {part = _} (houses_below (tree_house p) (tent_cells p)) {back = _} (rw (squares-are p) at (in-below (squares_of_row p) lt))))
 
 -- all houses of a closed board are idle
-closed-rested : {W : Type 0} (bits : W → ℕ) (p : Tents) (none : Waits W) (K : Candidates) → IsClosed (tent_rules p) K → AreTentsRested bits p none K
+closed-rested : {W : Type 0} (bits : W → ℕ) (p : Tents) (none : TentWaits W) (K : Candidates) → IsClosed (tent_rules p) K → AreTentsRested bits p none K
 closed-rested bits p none K closed kind k lt off =
     closed-idle (tent_cells p) (is_barred p) (tent_houses p) (solves_tents p) K closed (part-kind p kind k lt)
 
 -- a closing begins at a cell, which has lost a value
-pub rested-at : {W : Type 0} {bits : W → ℕ} {room : ℕ} {p : Tents} {planes : Layers} {place : ℕ} {none now : Waits W} {zeros ones : Touched W}
+pub rested-at : {W : Type 0} {bits : W → ℕ} {room : ℕ} {p : Tents} {planes : Layers} {place : ℕ} {none now : TentWaits W} {zeros ones : Touched W}
     → IsTents p → ArePlanes room planes → planes.size ≡ p.size → IsClosedAround (tent_rules p) (has planes) place
     → (has planes place 0 ≡ false → AreLinesOf bits zeros (place / p.size.w) (place % p.size.w))
     → (has planes place 1 ≡ false → AreLinesOf bits ones (place / p.size.w) (place % p.size.w))
@@ -198,15 +198,15 @@ pub place-in_planes : (p : Tents) (planes : Layers) {from : Option ℕ} {place :
 place-in_planes p planes {from} {place} size is closed = grind (arith, common_steps)
 
 -- ---- the houses of a kind
-abbrev column_house : Tents → ℕ → CountHouse
-column_house p x = exactly (slice_index p.counts x) (column_places p.size x)
+abbrev tent_column : Tents → ℕ → CountHouse
+tent_column p x = exactly (slice_index p.counts x) (column_places p.size x)
 
-abbrev row_house : Tents → ℕ → CountHouse
-row_house p y = exactly (slice_index p.counts (p.size.w + y)) (row_places p.size y)
+abbrev tent_row : Tents → ℕ → CountHouse
+tent_row p y = exactly (slice_index p.counts (p.size.w + y)) (row_places p.size y)
 
 abbrev IsOfKind : Tents → Kind → CountHouse → Type 0
-IsOfKind p Columns house = (x : ℕ) × (x < p.size.w) × (house ≡ column_house p x)
-IsOfKind p Rows house = (y : ℕ) × (y < p.size.h) × (house ≡ row_house p y)
+IsOfKind p Columns house = (x : ℕ) × (x < p.size.w) × (house ≡ tent_column p x)
+IsOfKind p Rows house = (y : ℕ) × (y < p.size.h) × (house ≡ tent_row p y)
 IsOfKind p Trees house = IsAll (tent_cells p) house
 IsOfKind p Squares house = IsSingle (tent_cells p) house
 
@@ -226,14 +226,14 @@ module _ (p : Tents) (lawful : IsTents p) where
   kind-keeps : (kind : Kind) (visited house : CountHouse) → IsOfKind p kind visited → IsOfKind p kind house → KeepsIdle (tent_cells p) visited house
   unfolding any_has
   kind-keeps Columns visited house is other = rw (is.2, other.2) (elim (cases_eq is.0 other.0) [
-    | inl same ↦ rw same (keeps-itself (tent_cells p) (column_house p other.0))
-    | inr ne ↦ keeps-apart (tent_cells p) (column_house p is.0) (column_house p other.0)
+    | inl same ↦ rw same (keeps-itself (tent_cells p) (tent_column p other.0))
+    | inr ne ↦ keeps-apart (tent_cells p) (tent_column p is.0) (tent_column p other.0)
         (λ c on. false_from_ne_true _ (λ also. ne
         (sym (column-lies p c (tent-field lawful).some is.1 (or_left _ _ on)) ∙ column-lies p c (tent-field lawful).some other.1 (or_left _ _ also))))
   ])
   kind-keeps Rows visited house is other = rw (is.2, other.2) (elim (cases_eq is.0 other.0) [
-    | inl same ↦ rw same (keeps-itself (tent_cells p) (row_house p other.0))
-    | inr ne ↦ keeps-apart (tent_cells p) (row_house p is.0) (row_house p other.0)
+    | inl same ↦ rw same (keeps-itself (tent_cells p) (tent_row p other.0))
+    | inr ne ↦ keeps-apart (tent_cells p) (tent_row p is.0) (tent_row p other.0)
         (λ c on. false_from_ne_true _ (λ also. ne
         (sym (row-lies p c (tent-field lawful).some (or_left _ _ on)) ∙ row-lies p c (tent-field lawful).some (or_left _ _ also))))
   ])
@@ -249,7 +249,7 @@ pub field-further : {room : ℕ} {p : Tents} {from to : Layers} {words : List �
 field-further field further alive = grind (arith, common_steps, false_from_ne_true)
 
 -- ---- visits of the lines of a kind that wait
-pub kind-first : {W : Type 0} (bits : W → ℕ) (p : Tents) (kind : Kind) (waits : Waits W) {left : ℕ → Bool} {from : Layers} → ArePlanesAlive from
+pub kind-first : {W : Type 0} (bits : W → ℕ) (p : Tents) (kind : Kind) (waits : TentWaits W) {left : ℕ → Bool} {from : Layers} → ArePlanesAlive from
     → AreTentsRested bits p waits (has from) → ((k : ℕ) → left k ≡ (has_bit (waiting bits waits kind) k && ltb k (kind_lines p kind)))
     → AreLinesPassed (kind_houses p kind) (kind_lines p kind) left from from
 kind-first bits p kind waits alive rested is = grind (arith, common_steps, passed-first, ltb-true, and_parts, first-off, lt-ltb)

@@ -1,5 +1,5 @@
 -- Visits of count houses, one after another; of those of one at most.
-use Rattle.fields_core.proofs.Common.{AllByRecursion, AreHouses, AreMet, ArePlanesAlive, AreVisited, Bool, Candidates, CountHouse, CountPuzzle, IsBroken, IsFurther, IsHouse, IsInside, IsTally, Layers, List, Tally, [], after, after_house, after_houses, and-false, and-true, and_parts, ap, append-nil, append_assoc, arith, cases_Bool, cases_eq, cells_of, common_steps, count_by, count_house_of, count_puzzle, eq-eqb, eqb, false, false_from_ne_true, false≢true, fun_ext, further-more, further-none, get_or-append_right, get_or-append_seam, has, has_place, has_place-at, has_place-here, houses_below, inl, inr, is_empty, is_open, le-ltb, length, length-append, list_any, lt-ltb, ltb, meets, ne_eqb, no_count_house, not, or_cases, range_with_len, refl, slice_index, subst, suc, sym, true, true≢false, zero, ℕ, ◌&&◌, ◌*◌, ◌++◌, ◌+◌, ◌-◌, ◌<◌, ◌||◌, ◌∙◌, ◌∷◌, ◌≡◌, ◌≢◌, ◌≤◌, ◌⊎◌}
+use Rattle.fields_core.proofs.Common.{AllByRecursion, AreHouses, AreMet, ArePlanesAlive, AreVisited, Bool, Candidates, CountHouse, CountPuzzle, IsBroken, IsFurther, IsHouse, IsInside, IsTally, Layers, List, Tally, [], after, after_house, after_visits, and-false, and-true, and_parts, ap, append-nil, append_assoc, arith, cases_Bool, cases_eq, cells_of, common_steps, count_by, count_house_of, count_puzzle, eq-eqb, eqb, false, false_from_ne_true, false≢true, fun_ext, further-more, further-none, get_or-append_right, get_or-append_seam, has, has_place, has_place-at, has_place-here, houses_below, inl, inr, is_empty, is_open, le-ltb, length, length-append, list_any, lt-ltb, ltb, meets_house, ne_eqb, no_count_house, not, or_cases, range_with_len, refl, slice_index, subst, suc, sym, true, true≢false, zero, ℕ, ◌&&◌, ◌*◌, ◌++◌, ◌+◌, ◌-◌, ◌<◌, ◌||◌, ◌∙◌, ◌∷◌, ◌≡◌, ◌≢◌, ◌≤◌, ◌⊎◌}
 use Rattle.engine_core.specs.Closing.{replay}
 use Rattle.fields_core.proofs.HouseLemmas.{below-more}
 use Rattle.fields_core.proofs.CountKept.{after-at, has-value, off-scope}
@@ -12,15 +12,15 @@ pub after-inside : (house : CountHouse) (K : Candidates) → IsInside (after_hou
 unfolding after_house
 after-inside house K = λ c v on. (and_parts _ _ on).0
 
-pub visits-inside : (houses : List CountHouse) (K : Candidates) → IsInside (after_houses houses K) K
-unfolding after_houses
+pub visits-inside : (houses : List CountHouse) (K : Candidates) → IsInside (after_visits houses K) K
+unfolding after_visits
 visits-inside [] K = λ c v on. on
 visits-inside (house ∷ houses) K = λ c v on. after-inside house K c v
     (visits-inside houses (after_house house K) c v on)
 
 pub visits-append : (front back : List CountHouse) (K : Candidates)
-    → after_houses (front ++ back) K ≡ after_houses back (after_houses front K)
-unfolding after_houses
+    → after_visits (front ++ back) K ≡ after_visits back (after_visits front K)
+unfolding after_visits
 visits-append [] back K = refl
 visits-append (house ∷ front) back K = visits-append front back (after_house house K)
 
@@ -34,28 +34,28 @@ visit-is cells blocked houses is_solution h K = refl
 replay-on : (front houses : List CountHouse) (cells : ℕ) (blocked : ℕ → Bool) (is_solution : List ℕ → Bool)
     (K : Candidates)
     → replay (count_puzzle cells blocked (front ++ houses) is_solution) K
-    (range_with_len (length front) (length houses)) ≡ after_houses houses K
-unfolding replay after_houses
+    (range_with_len (length front) (length houses)) ≡ after_visits houses K
+unfolding replay after_visits
 replay-on front [] cells blocked is_solution K = refl
 replay-on front (house ∷ houses) cells blocked is_solution K = grind (arith, common_steps, length-append, visit-is, get_or-append_seam, replay-on (front ++ house ∷ []) houses cells blocked is_solution (after_house house K))
 
 pub replay-visits : (cells : ℕ) (blocked : ℕ → Bool) (houses : List CountHouse) (is_solution : List ℕ → Bool)
     (K : Candidates)
     → replay (count_puzzle cells blocked houses is_solution) K
-    (range_with_len 0 (length houses)) ≡ after_houses houses K
+    (range_with_len 0 (length houses)) ≡ after_visits houses K
 replay-visits cells blocked houses is_solution K = replay-on [] houses cells blocked is_solution K
 
 -- ---- visits on planes
 pub visited-none : {p : Layers} → ArePlanesAlive p → AreVisited [] p p true
-unfolding after_houses
+unfolding after_visits
 visited-none {p} alive = record { left = λ _. refl; dies = λ e. absurd (true≢false e); alive = alive; further = further-none p }
 
 -- each house has a filling
-pub visited-left : {houses : List CountHouse} {p q : Layers} → has q ≡ after_houses houses (has p) → ArePlanesAlive q → IsFurther p q → AreVisited houses p q true
+pub visited-left : {houses : List CountHouse} {p q : Layers} → has q ≡ after_visits houses (has p) → ArePlanesAlive q → IsFurther p q → AreVisited houses p q true
 visited-left left alive further = record { left = λ _. left; dies = λ e. absurd (true≢false e); alive = alive; further = further }
 
 -- a cell is left without a value
-pub visited-dies : {houses : List CountHouse} {p : Layers} (c : ℕ) → c < cells_of p → ((v : ℕ) → v < 2 → after_houses houses (has p) c v ≡ false)
+pub visited-dies : {houses : List CountHouse} {p : Layers} (c : ℕ) → c < cells_of p → ((v : ℕ) → v < 2 → after_visits houses (has p) c v ≡ false)
     → ArePlanesAlive p → AreVisited houses p p false
 visited-dies {p} c lt none alive = record { left = λ e. absurd (true≢false (sym e)); dies = λ _. (c, lt, none); alive = alive; further = further-none p }
 
@@ -63,7 +63,7 @@ visited-dies {p} c lt none alive = record { left = λ e. absurd (true≢false (s
 pub visited-one : {house : CountHouse} {p q : Layers} {fills : Bool} → IsHouse (cells_of p) house
     → 0 < length house.places → (fills ≡ true → has q ≡ after_house house (has p))
     → (fills ≡ false → IsBroken house (has p)) → ArePlanesAlive q → IsFurther p q → AreVisited (house ∷ []) p q fills
-unfolding after_houses
+unfolding after_visits
 visited-one {house} is some left broken alive further = record {
   left = left;
   dies = λ e. let there = has_place-here house.places 0 some in
@@ -151,7 +151,7 @@ pub among-house : {house : CountHouse} {houses : List CountHouse} (cells : ℕ) 
     → IsAmong house houses → IsHouse cells house
 among-house cells are among = subst (IsHouse cells) among.is (are among.number among.within)
 
-pub among-met : {p : CountPuzzle} {g : List ℕ} {house : CountHouse} → AreMet p g → IsAmong house p.houses → 0 < length house.places → meets house g ≡ true
+pub among-met : {p : CountPuzzle} {g : List ℕ} {house : CountHouse} → AreMet p g → IsAmong house p.houses → 0 < length house.places → meets_house house g ≡ true
 among-met {p} {g} met among = grind (arith, common_steps)
 
 -- Visits of houses of one at most, one after another, by the cells that can have 0.
@@ -234,8 +234,8 @@ full-after {cells} {house} {K} full one = grind (arith, common_steps, and_parts,
 
 -- ---- houses of one at most, one after another
 pub visits-met : {cells : ℕ} (houses : List CountHouse) (K : Candidates) → IsBinaryAlive cells K
-    → AllByRecursion (IsOneAtMost cells (zeros_of K)) houses → after_houses houses K ≡ without_met houses K
-unfolding after_houses without_met
+    → AllByRecursion (IsOneAtMost cells (zeros_of K)) houses → after_visits houses K ≡ without_met houses K
+unfolding after_visits without_met
 visits-met [] K full all = grind (arith, common_steps, cases_Bool)
 visits-met {cells} (house ∷ houses) K full (one, all) =
     let stay = zeros-stay full one in
@@ -260,13 +260,13 @@ after-two {cells} {house} K {d} {e} {v} is one ne in_d in_e off_d off_e low =
 pub visits-two : (cells : ℕ) (houses : List CountHouse) (K : Candidates) (d e v : ℕ)
     → AllByRecursion (λ house. IsHouse cells house × (house.most ≡ 1)) houses → d ≢ e
     → list_any (λ house. has_place house.places d && has_place house.places e) houses ≡ true
-    → K d 0 ≡ false → K e 0 ≡ false → v < 2 → after_houses houses K d v ≡ false
-unfolding after_houses
+    → K d 0 ≡ false → K e 0 ≡ false → v < 2 → after_visits houses K d v ≡ false
+unfolding after_visits
 visits-two cells [] K d e v all ne some off_d off_e low = absurd (false≢true some)
 visits-two cells (house ∷ houses) K d e v ((is, one), all) ne some off_d off_e low = elim (or_cases _ _ some) [
   | inl here ↦
       let both = and_parts _ _ here in
-      dead (after_houses houses (after_house house K) d v)
+      dead (after_visits houses (after_house house K) d v)
       (λ on. visits-inside houses (after_house house K) d v on)
       (after-two K is one ne both.0 both.1 off_d off_e low)
   | inr more ↦ visits-two cells houses (after_house house K) d e v all ne more (gone-stays house K d 0 off_d) (gone-stays house K e 0 off_e) low

@@ -30,27 +30,27 @@ pub use Rattle.fields_core.specs.Houses.{AreAdded, AreNamed, ArePassing, CountsP
 pub use Rattle.fields_core.specs.Light.{bulb, bulbs_beside, light_cells}
 unfoldable pub use Rattle.fields_core.specs.Light.{number_right, sees_bulb, white}
 pub use Rattle.fields_core.specs.LightFaults.{IsLightFault}
-pub use Rattle.fields_core.specs.LightHouses.{AddsAll, AddsHouse, AreLightNames, column_house, house_at, in_grid, in_rows, light_counts, light_house, light_rules, lit_house, number_house}
+pub use Rattle.fields_core.specs.LightHouses.{AddsAll, AddsHouse, AreLightNames, column_house, light_house_at, houses_in_grid, houses_in_rows, light_counts, light_house, light_rules, lit_house, number_house}
 pub use Rattle.fields_core.specs.LightHouses.{row_house}
 unfoldable pub use Rattle.fields_core.specs.LightHouses.{light_houses}
 pub use Rattle.fields_core.specs.LightRuns.{asks, lonely}
 pub use Rattle.fields_core.specs.LightPlanes.{AreLightsWritten, ArePlanesOf, AreRowTables, AreTables, HasTables}
-pub use Rattle.fields_core.specs.LightRunLines.{AreAround, AreAroundAlong, AreRunsOf, AreRunsVisited, IsClash, ReachesAlong, ReachesMarked, along}
-pub use Rattle.fields_core.specs.LightRuns.{AreFilled, AreRunsWritten, AreWritten, IsFilledIn}
+pub use Rattle.fields_core.specs.LightRunLines.{AreAround, AreAroundAlong, AreRunsOf, AreRunsVisited, IsClash, ReachesAlong, ReachesMarked, word_along}
+pub use Rattle.fields_core.specs.LightRuns.{AreWordsFilled, AreRunsWritten, AreWordsWritten, IsFilledIn}
 pub use Rattle.fields_core.specs.LightRuns.{AddsRun, IsAround, IsLatest, IsLine, TellsRun, house_along, line_cells, whites_of}
 pub use Rattle.fields_core.specs.LightRuns.{RunsOn, ShinesAlong, ShinesInLine}
 pub use Rattle.fields_core.specs.LightSolutions.{IsLightSolution}
-pub use Rattle.fields_core.specs.LightWaits.{AreAlwaysRested, AreColumnsPartedFrom, AreIdleBut, AreLightsReady, AreLinesRested, AreLinesWoken, AreLinesWokenSince, AreNumbersSettled, AreRunLines, AreSafe, AreSafeInColumns, AreThoseMet}
-pub use Rattle.fields_core.specs.LightWaits.{AreSettled, AreWhitesIdleBut, all_runs, line_board, lits_of_row, meets_line, run_houses, run_lines, waiting_runs}
+pub use Rattle.fields_core.specs.LightWaits.{AreAlwaysRested, AreColumnsPartedFrom, AreIdleBut, AreLightsReady, AreLightsRested, AreLightsWoken, AreLightsWokenSince, AreNumbersSettled, AreRunLines, AreSafe, AreSafeInColumns, AreThoseMet}
+pub use Rattle.fields_core.specs.LightWaits.{AreLightsSettled, AreWhitesIdleBut, all_runs, line_board, lits_of_row, meets_line, run_houses, run_lines, waiting_runs}
 pub use Rattle.fields_core.specs.LightWaits.{white_houses}
 pub use Rattle.fields_core.specs.LightPlanes.{numbers_of_row}
 unfoldable pub use Rattle.fields_core.specs.LightPlanes.{is_numbered}
 pub use Rattle.fields_core.specs.LineWords.{AreRowsOf, AreSpread, IsRowIn, IsRowOf}
-pub use Rattle.fields_core.specs.Parts.{ArePieces, ArePlanesAlive, IsBroken, IsHouseBroken, IsHouseLeft, IsHouseOf, IsStruck, Piece, piece_at, piece_of, pieces_of}
-pub use Rattle.fields_core.specs.PlaneGames.{AreShortEnough, IsClosedTo}
+pub use Rattle.fields_core.specs.Parts.{ArePieces, ArePlanesAlive, IsBroken, IsHouseBroken, IsHouseLeft, IsHouseOfPieces, IsStruck, Piece, piece_at, piece_of, pieces_of}
+pub use Rattle.fields_core.specs.PlaneGames.{AreShortEnough, IsClosedByCounts}
 unfoldable pub use Rattle.fields_core.specs.Parts.{without_value}
 pub use Rattle.fields_core.specs.Sweeps.{IsSweep}
-pub use Rattle.fields_core.specs.Count.{IsTally, stays}
+pub use Rattle.fields_core.specs.Count.{IsTally, value_stays}
 pub use Rattle.fields_core.specs.TentSolutions.{IsTentFault}
 pub use Rattle.fields_core.specs.TentHouses.{AddsTree, AreTentNames, column_of_tents, row_of_tents, tent_counts, tent_house, tent_rules, tree_house}
 unfoldable pub use Rattle.fields_core.specs.TentHouses.{is_barred, tent_houses}

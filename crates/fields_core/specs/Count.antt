@@ -40,7 +40,7 @@ lacks_filling t b =
     || (nat_lt b.most b.least || (nat_lt t.may b.least || nat_lt b.most t.must))
 
 -- a value of a cell stays, unless there is no filling, or the cell has both values and the value's bound is reached
-abbrev pub stays : Tally → Bounds → Bool → ℕ → Bool
-stays t b both v =
+abbrev pub value_stays : Tally → Bounds → Bool → ℕ → Bool
+value_stays t b both v =
     not (lacks_filling t b)
     && not (both && (((v == 1) && (t.must == b.most)) || ((v == 0) && (t.may == b.least))))

@@ -31,8 +31,8 @@ houses_below f zero = []
 houses_below f (suc n) = houses_below f n ++ f n
 
 -- the grid's ones in the house's cells are neither too few nor too many
-unfoldable pub meets : CountHouse → List ℕ → Bool
-meets house g = counts_between house.least house.most (map (slice_index g) house.places)
+unfoldable pub meets_house : CountHouse → List ℕ → Bool
+meets_house house g = counts_between house.least house.most (map (slice_index g) house.places)
 
 -- what a visit of the house strikes
 unfoldable pub strikes_of : CountHouse → Candidates → ℕ → ℕ → Bool
@@ -97,13 +97,13 @@ pub record IsCounting (cells : ℕ) (blocked : ℕ → Bool) (houses : List Coun
   pub blocked_zero : (g : List ℕ) → IsGrid cells 2 g → is_solution g ≡ true
       → (c : ℕ) → c < cells → blocked c ≡ true → slice_index g c ≡ 0
   pub meets_each : (g : List ℕ) → IsGrid cells 2 g → is_solution g ≡ true
-      → (h : ℕ) → h < length houses → meets (count_house_of houses h) g ≡ true
+      → (h : ℕ) → h < length houses → meets_house (count_house_of houses h) g ≡ true
 
 -- the grid leaves blocked cells at 0 and meets each house that has a cell
 pub record AreMet (p : CountPuzzle) (g : List ℕ) : Type 0 where
   pub blocked_zero : (c : ℕ) → c < p.cells → p.blocked c ≡ true → slice_index g c ≡ 0
   pub meets_each : (h : ℕ) → h < length p.houses → 0 < length (count_house_of p.houses h).places
-      → meets (count_house_of p.houses h) g ≡ true
+      → meets_house (count_house_of p.houses h) g ≡ true
 
 abbrev pub IsCounted : CountPuzzle → Type 0
 IsCounted p = IsCounting p.cells p.blocked p.houses p.is_solution

@@ -8,7 +8,7 @@ use Rattle.grid_core.proofs.GridLemmas.{single-is}
 use Rattle.engine_core.specs.PlaceLaws.{has_place-here}
 use Rattle.engine_core.specs.HouseSetsLaws.{strikes_at-inside, strikes_at-in_scope, by_fillings-monotone, by_fillings-settled, by_fillings-closed}
 use Rattle.fields_core.specs.Count.{counts_between}
-use Rattle.fields_core.specs.CountHouse.{CountHouse, CountPuzzle, count_house_of, meets, rules_of, strikes_of, start_of, count_puzzle, IsCounting}
+use Rattle.fields_core.specs.CountHouse.{CountHouse, CountPuzzle, count_house_of, meets_house, rules_of, strikes_of, start_of, count_puzzle, IsCounting}
 
 start-within : {cells : ℕ} (blocked : ℕ → Bool) → IsWithin cells 2 (start_of cells blocked)
 unfolding start_of all_of
@@ -30,7 +30,7 @@ count-alive p = is_dead-each p.cells 2 (rules_of p).start (λ c lt.
 pub count-lawful : (cells : ℕ) (blocked : ℕ → Bool) (houses : List CountHouse)
     (is_solution : List ℕ → Bool) → IsCounting cells blocked houses is_solution
     → IsLawful (count_puzzle cells blocked houses is_solution)
-unfolding after strikes_of meets
+unfolding after strikes_of meets_house
 count-lawful cells blocked houses is_solution counting = record {
   strikes_inside = λ h K L lt inside c v struck.
       strikes_at-inside 2 (places h) (decides h) (by_fillings-monotone (holds h)) K L inside c v struck;

@@ -54,22 +54,22 @@ light_house p Column c = column_house p c
 light_house p Lit c = lit_house p c
 
 -- the houses of one sort: that of a cell, those of a row, all by row, and all by place
-abbrev pub house_at : Light → (Light → ℕ → List CountHouse) → ℕ → ℕ → List CountHouse
-house_at p house y x = house p (y * p.size.w + x)
+abbrev pub light_house_at : Light → (Light → ℕ → List CountHouse) → ℕ → ℕ → List CountHouse
+light_house_at p house y x = house p (y * p.size.w + x)
 
-abbrev pub in_row : Light → (Light → ℕ → List CountHouse) → ℕ → List CountHouse
-in_row p house y = houses_below (house_at p house y) p.size.w
+abbrev pub houses_in_row : Light → (Light → ℕ → List CountHouse) → ℕ → List CountHouse
+houses_in_row p house y = houses_below (light_house_at p house y) p.size.w
 
-abbrev pub in_rows : Light → (Light → ℕ → List CountHouse) → List CountHouse
-in_rows p houses = houses_below (houses p) p.size.h
+abbrev pub houses_in_rows : Light → (Light → ℕ → List CountHouse) → List CountHouse
+houses_in_rows p houses = houses_below (houses p) p.size.h
 
-abbrev pub in_grid : Light → (Light → ℕ → List CountHouse) → List CountHouse
-in_grid p house = houses_below (house p) (light_cells p)
+abbrev pub houses_in_grid : Light → (Light → ℕ → List CountHouse) → List CountHouse
+houses_in_grid p house = houses_below (house p) (light_cells p)
 
 -- the houses of numbers, of runs in rows, of runs in columns and of white cells
 unfoldable pub light_houses : Light → List CountHouse
 light_houses p =
-    in_grid p number_house ++ (in_grid p row_house ++ (in_grid p column_house ++ in_grid p lit_house))
+    houses_in_grid p number_house ++ (houses_in_grid p row_house ++ (houses_in_grid p column_house ++ houses_in_grid p lit_house))
 
 -- what Light Up counts
 abbrev pub light_counts : Light → CountPuzzle
@@ -95,4 +95,4 @@ AddsHouse p house c old new = AreAdded (light_house p) old.items new.items (hous
 
 abbrev pub AddsAll : Light → (Light → ℕ → List CountHouse) → Vec (HouseName LightHouse)
     → Vec (HouseName LightHouse) → Type 0
-AddsAll p house old new = AreAdded (light_house p) old.items new.items (in_grid p house)
+AddsAll p house old new = AreAdded (light_house p) old.items new.items (houses_in_grid p house)

@@ -3,7 +3,7 @@ use Rattle.std.specs.Prelude.{Bool, List, false, length, map, nat_lt, slice_inde
 use Rattle.fields_core.specs.Below.{Black, IsLight, Layers, Light, LightCell, Numbered, White, has_bit}
 use Rattle.fields_core.specs.CountHouse.{CountHouse}
 use Rattle.fields_core.specs.Light.{joined_in_column, joined_in_row, light_cells, white}
-use Rattle.fields_core.specs.LightHouses.{in_row, number_house, row_house}
+use Rattle.fields_core.specs.LightHouses.{houses_in_row, number_house, row_house}
 use Rattle.fields_core.specs.LineWords.{AreColumnsOf, AreRowsOf}
 use Rattle.fields_core.specs.Parts.{ArePlanesAlive}
 use Rattle.fields_core.specs.declared.planes.light_up.light_notes.LightNotes.{LightNotes}
@@ -29,10 +29,10 @@ pub record AreRunWords (p : Light) (rows columns : List ℕ) : Type 0 where
 
 -- the houses of the numbers of a row, and of its runs
 abbrev pub numbers_of_row : Light → ℕ → List CountHouse
-numbers_of_row p = in_row p number_house
+numbers_of_row p = houses_in_row p number_house
 
 abbrev pub row_runs_of_row : Light → ℕ → List CountHouse
-row_runs_of_row p = in_row p row_house
+row_runs_of_row p = houses_in_row p row_house
 
 abbrev pub has_number : LightCell → Bool
 has_number White = false

@@ -6,8 +6,8 @@ use Rattle.fields_core.specs.LightHouses.{column_house}
 use Rattle.fields_core.specs.Visits.{AreVisited}
 
 -- the word of each number of a line whose words are that far apart, and whether they have one
-abbrev pub along : {W : Type 0} → (W → ℕ) → List W → ℕ → ℕ → ℕ → ℕ
-along bits words first stride k = slice_index (map bits words) (first + k * stride)
+abbrev pub word_along : {W : Type 0} → (W → ℕ) → List W → ℕ → ℕ → ℕ → ℕ
+word_along bits words first stride k = slice_index (map bits words) (first + k * stride)
 
 abbrev pub ReachesAlong : ℕ → ℕ → ℕ → ℕ → Type 0
 ReachesAlong long first stride len = (k : ℕ) → k < len → first + k * stride < long
@@ -26,7 +26,7 @@ pub record AreAround (run : ℕ → ℕ) (room marked bits : ℕ) : Type 0 where
 -- the same of a line, by the words of its numbers
 abbrev pub AreAroundAlong : {W : Type 0} → (W → ℕ) → ℕ → List W → ℕ → ℕ → W → W → Type 0
 AreAroundAlong bits room words first stride marked around =
-    AreAround (along bits words first stride) room (bits marked) (bits around)
+    AreAround (word_along bits words first stride) room (bits marked) (bits around)
 
 -- two marked numbers are in one run
 pub record IsClash (run : ℕ → ℕ) (marked : ℕ) : Type 0 where

@@ -3,12 +3,12 @@ use Rattle.std.specs.Prelude.{◌≡◌, ◌≢◌, ℕ, ◌+◌, ◌*◌, ◌/�
 use Rattle.fields_core.specs.Below.{AreLinesOf, Candidates, Extent, IsFurther, IsLight, Layers, Light, Touched, has, has_bit, has_place}
 use Rattle.fields_core.specs.CountHouse.{CountHouse, houses_below}
 use Rattle.fields_core.specs.Light.{clear, light_cells, joined_in_column, white}
-use Rattle.fields_core.specs.LightHouses.{column_house, house_at, in_grid, in_row, lit_house, number_house, row_house, seen_from}
+use Rattle.fields_core.specs.LightHouses.{column_house, light_house_at, houses_in_grid, houses_in_row, lit_house, number_house, row_house, seen_from}
 use Rattle.fields_core.specs.LightPlanes.{ArePlanesOf, AreTables, numbers_of_row, row_runs_of_row}
 use Rattle.fields_core.specs.LightRunLines.{column_runs_of_column}
 use Rattle.fields_core.specs.Visits.{AreIdle}
 use Rattle.fields_core.specs.declared.planes.light_up.light_notes.LightNotes.{LightNotes}
-use Rattle.fields_core.specs.declared.planes.light_up.waits.LineWaits.{LineWaits}
+use Rattle.fields_core.specs.declared.planes.light_up.waits.LightWaits.{LightWaits}
 use Rattle.fields_core.specs.declared.planes.light_up.waits.RunKind.{RunKind}
 use Rattle.fields_core.specs.declared.planes.light_up.waits.RunKind.TheVariants.{Rows, Columns}
 use Rattle.fields_core.specs.LineWords.{AreSpread}
@@ -30,14 +30,14 @@ AreRunLines bits size kind lines = (p : Light) → size ≡ p.size
 abbrev pub all_runs : Light → RunKind → List CountHouse
 all_runs p kind = houses_below (run_houses p kind) (run_lines p kind)
 
-abbrev pub waiting_runs : {W : Type 0} → (W → ℕ) → LineWaits W → RunKind → ℕ
+abbrev pub waiting_runs : {W : Type 0} → (W → ℕ) → LightWaits W → RunKind → ℕ
 waiting_runs bits waits Rows = bits waits.rows
 waiting_runs bits waits Columns = bits waits.columns
 
 -- the numbers of a row in columns that are none of these are idle
 abbrev pub AreIdleBut : Light → ℕ → ℕ → Candidates → Type 0
 AreIdleBut p columns y K = (x : ℕ) → x < p.size.w → has_bit columns x ≡ false
-    → AreIdle (house_at p number_house y x) K
+    → AreIdle (light_house_at p number_house y x) K
 
 -- none of the cells that the house of a white cell has is at both a column and a row of these lines
 abbrev pub IsAway : {W : Type 0} → (W → ℕ) → Light → Touched W → ℕ → Type 0
@@ -66,7 +66,7 @@ pub record IsReach {W : Type 0} (bits : W → ℕ) (p : Light) (lines : Touched 
       → IsAway bits p lines (y * p.size.w + x)
 
 -- all of these houses that do not wait are idle
-pub record AreLinesRested {W : Type 0} (bits : W → ℕ) (p : Light) (waits : LineWaits W)
+pub record AreLightsRested {W : Type 0} (bits : W → ℕ) (p : Light) (waits : LightWaits W)
     (K : Candidates)
     : Type 0 where
   pub numbers : (y : ℕ) → y < p.size.h → has_bit (bits waits.numbers) y ≡ false
@@ -78,20 +78,20 @@ pub record AreLinesRested {W : Type 0} (bits : W → ℕ) (p : Light) (waits : L
       → AreIdle (lit_house p c) K
 
 -- where these houses are idle, they need not wait
-abbrev pub AreSettled : {W : Type 0} → (W → ℕ) → (Light → ℕ → List CountHouse) → (Light → ℕ)
-    → LineWaits W → LineWaits W → Type 0
-AreSettled bits houses number before now = (p : Light) (K : Candidates)
-    → AreLinesRested bits p before K → ((k : ℕ) → k < number p → AreIdle (houses p k) K)
-    → AreLinesRested bits p now K
+abbrev pub AreLightsSettled : {W : Type 0} → (W → ℕ) → (Light → ℕ → List CountHouse) → (Light → ℕ)
+    → LightWaits W → LightWaits W → Type 0
+AreLightsSettled bits houses number before now = (p : Light) (K : Candidates)
+    → AreLightsRested bits p before K → ((k : ℕ) → k < number p → AreIdle (houses p k) K)
+    → AreLightsRested bits p now K
 
-abbrev pub AreNumbersSettled : {W : Type 0} → (W → ℕ) → ℕ → ℕ → LineWaits W → LineWaits W → Type 0
+abbrev pub AreNumbersSettled : {W : Type 0} → (W → ℕ) → ℕ → ℕ → LightWaits W → LightWaits W → Type 0
 AreNumbersSettled bits room y before now = (p : Light) (K : Candidates) → p.size.h ≤ room
-    → AreLinesRested bits p before K → AreIdle (numbers_of_row p y) K → AreLinesRested bits p now K
+    → AreLightsRested bits p before K → AreIdle (numbers_of_row p y) K → AreLightsRested bits p now K
 
 -- whatever the board, all of the houses that do not wait are idle
-abbrev pub AreAlwaysRested : {W : Type 0} → (W → ℕ) → ℕ → LineWaits W → Type 0
+abbrev pub AreAlwaysRested : {W : Type 0} → (W → ℕ) → ℕ → LightWaits W → Type 0
 AreAlwaysRested bits room waits = (p : Light) (K : Candidates)
-    → IsLight p → p.size.w ≤ room → p.size.h ≤ room → AreLinesRested bits p waits K
+    → IsLight p → p.size.w ≤ room → p.size.h ≤ room → AreLightsRested bits p waits K
 
 -- whether one of the lines has the cell of a row and a column
 abbrev pub meets_line : {W : Type 0} → (W → ℕ) → Touched W → ℕ → ℕ → Bool
@@ -104,8 +104,8 @@ AreThoseMet bits lines y cells met = (x : ℕ)
 
 -- what waits once cells of these lines have lost 0, and cells of those 1: numbers of these lines and of the lines beside
 -- them, runs of the columns and rows in which cells have lost 0, and white cells of those in which cells have lost 1
-pub record AreLinesWoken {W : Type 0} (bits : W → ℕ) (room : ℕ) (before : LineWaits W)
-    (zeros ones : Touched W) (now : LineWaits W)
+pub record AreLightsWoken {W : Type 0} (bits : W → ℕ) (room : ℕ) (before : LightWaits W)
+    (zeros ones : Touched W) (now : LightWaits W)
     : Type 0 where
   pub numbers : AreSpread bits room before.numbers
       (λ k. has_bit (bits zeros.rows) k || has_bit (bits ones.rows) k) now.numbers
@@ -121,12 +121,12 @@ pub record AreLinesWoken {W : Type 0} (bits : W → ℕ) (room : ℕ) (before : 
       ≡ (has_bit (bits before.ones.columns) k || has_bit (bits ones.columns) k)
 
 -- what waits once values were taken since the trail had that length
-abbrev pub AreLinesWokenSince : {W : Type 0} → (W → ℕ) → ℕ → ℕ → Layers → LineWaits W
-    → LineWaits W → Type 0
-AreLinesWokenSince bits room len planes before now = (p : Light) (from : Layers)
+abbrev pub AreLightsWokenSince : {W : Type 0} → (W → ℕ) → ℕ → ℕ → Layers → LightWaits W
+    → LightWaits W → Type 0
+AreLightsWokenSince bits room len planes before now = (p : Light) (from : Layers)
     → ArePlanesOf room p planes → ArePlanesOf room p from → from.len ≡ len
-    → IsFurther from planes → AreLinesRested bits p before (has from)
-    → AreLinesRested bits p now (has planes)
+    → IsFurther from planes → AreLightsRested bits p before (has from)
+    → AreLightsRested bits p now (has planes)
 
 -- planes of a puzzle, with its words; what does not wait is idle
 pub record AreLightsReady {W : Type 0} (bits : W → ℕ) (room : ℕ) (p : Light) (planes : Layers)
@@ -134,13 +134,13 @@ pub record AreLightsReady {W : Type 0} (bits : W → ℕ) (room : ℕ) (p : Ligh
     : Type 0 where
   pub planes_of : ArePlanesOf room p planes
   pub tables : AreTables bits p notes.tables
-  pub rested : AreLinesRested bits p notes.waits (has planes)
+  pub rested : AreLightsRested bits p notes.waits (has planes)
 
 -- ---- white cells
 -- those of the white cells of a row are idle that are none of these
 abbrev pub AreWhitesIdleBut : Light → ℕ → ℕ → Candidates → Type 0
 AreWhitesIdleBut p some y K = (x : ℕ) → x < p.size.w → has_bit some x ≡ false
-    → AreIdle (house_at p lit_house y x) K
+    → AreIdle (light_house_at p lit_house y x) K
 
 -- two of these cells can have a bulb, or one of them must
 pub record AreSafe (cells : ℕ → Bool) (K : Candidates) : Type 0 where
@@ -164,8 +164,8 @@ line_board zeros ones k (suc v) = has_bit ones k
 
 -- the houses of the white cells of a row
 abbrev pub lits_of_row : Light → ℕ → List CountHouse
-lits_of_row p = in_row p lit_house
+lits_of_row p = houses_in_row p lit_house
 
 -- the houses of runs and of white cells
 abbrev pub white_houses : Light → List CountHouse
-white_houses p = (in_grid p row_house ++ in_grid p column_house) ++ in_grid p lit_house
+white_houses p = (houses_in_grid p row_house ++ houses_in_grid p column_house) ++ houses_in_grid p lit_house

@@ -51,7 +51,7 @@ abbrev pub ArePartsCounted : Layers → List Piece → ℕ → ℕ → Type 0
 ArePartsCounted p pieces may undecided = IsCount p pieces (length pieces) may undecided
 
 -- a count house of the cells of these pieces
-pub record IsHouseOf (size : Extent) (pieces : List Piece) (least most : ℕ) (house : CountHouse)
+pub record IsHouseOfPieces (size : Extent) (pieces : List Piece) (least most : ℕ) (house : CountHouse)
     : Type 0 where
   pub is : IsHouse (size.w * size.h) house
   pub least_is : house.least ≡ least
@@ -70,11 +70,11 @@ IsBroken house K = (c v : ℕ) → has_place house.places c ≡ true → v < 2
 -- of any house of these cells and bounds: a visit leaves that board, or no value in its cells
 abbrev pub IsHouseLeft : List Piece → ℕ → ℕ → Layers → Layers → Type 0
 IsHouseLeft pieces least most from to = (house : CountHouse)
-    → IsHouseOf from.size pieces least most house → has to ≡ after_house house (has from)
+    → IsHouseOfPieces from.size pieces least most house → has to ≡ after_house house (has from)
 
 abbrev pub IsHouseBroken : List Piece → ℕ → ℕ → Layers → Type 0
 IsHouseBroken pieces least most from = (house : CountHouse)
-    → IsHouseOf from.size pieces least most house → IsBroken house (has from)
+    → IsHouseOfPieces from.size pieces least most house → IsBroken house (has from)
 
 -- the board without the value in the cells of the first n pieces that have the other value
 unfoldable pub without_value : ℕ → List Piece → ℕ → ℕ → Candidates → Candidates

@@ -13,5 +13,5 @@ AreShortEnough all_short rules size = (had : Counted) → FitsIn (needs_of rules
     → all_short (needs_in had) → IsSuited size 64
 
 -- a closing by the rules of what is counted, from planes to planes
-abbrev pub IsClosedTo : CountPuzzle → Layers → Layers → Closing → Type 0
-IsClosedTo p from to closing = IsTaken (rules_of p) (has from) (has to) closing
+abbrev pub IsClosedByCounts : CountPuzzle → Layers → Layers → Closing → Type 0
+IsClosedByCounts p from to closing = IsTaken (rules_of p) (has from) (has to) closing

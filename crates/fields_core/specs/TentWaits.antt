@@ -8,7 +8,7 @@ use Rattle.fields_core.specs.TentTrees.{AreBare, squares_of_row, trees_of_row, w
 use Rattle.fields_core.specs.Visits.{AreIdle, AreVisited}
 use Rattle.fields_core.specs.declared.planes.tents.waits.Kind.{Kind}
 use Rattle.fields_core.specs.declared.planes.tents.waits.Kind.TheVariants.{Columns, Rows, Squares, Trees}
-use Rattle.fields_core.specs.declared.planes.tents.waits.Waits.{Waits}
+use Rattle.fields_core.specs.declared.planes.tents.waits.TentWaits.{TentWaits}
 use Rattle.fields_core.specs.LineWords.{AreRowsOf, AreSpread}
 use Rattle.fields_core.specs.declared.planes.tents.tent_notes.TentNotes.{TentNotes}
 
@@ -30,24 +30,24 @@ kind_lines p Squares = p.size.h
 abbrev pub all_of_kind : Tents → Kind → List CountHouse
 all_of_kind p kind = houses_below (kind_houses p kind) (kind_lines p kind)
 
-abbrev pub waiting : {W : Type 0} → (W → ℕ) → Waits W → Kind → ℕ
+abbrev pub waiting : {W : Type 0} → (W → ℕ) → TentWaits W → Kind → ℕ
 waiting bits waits Columns = bits waits.columns
 waiting bits waits Rows = bits waits.rows
 waiting bits waits Trees = bits waits.trees
 waiting bits waits Squares = bits waits.squares
 
 -- the lines of a grid at which houses of the kind wait
-abbrev pub AreWaitingLines : {W : Type 0} → (W → ℕ) → Extent → Waits W → Kind → W → Type 0
+abbrev pub AreWaitingLines : {W : Type 0} → (W → ℕ) → Extent → TentWaits W → Kind → W → Type 0
 AreWaitingLines bits size waits kind lines = (p : Tents) → size ≡ p.size → (k : ℕ)
     → has_bit (bits lines) k ≡ (has_bit (waiting bits waits kind) k && nat_lt k (kind_lines p kind))
 
 -- all houses that do not wait are idle
-abbrev pub AreTentsRested : {W : Type 0} → (W → ℕ) → Tents → Waits W → Candidates → Type 0
+abbrev pub AreTentsRested : {W : Type 0} → (W → ℕ) → Tents → TentWaits W → Candidates → Type 0
 AreTentsRested bits p waits K = (kind : Kind) (k : ℕ) → k < kind_lines p kind
     → has_bit (waiting bits waits kind) k ≡ false → AreIdle (kind_houses p kind k) K
 
 -- where the houses of the kind are idle, they need not wait
-abbrev pub AreTentsSettled : {W : Type 0} → (W → ℕ) → Kind → Waits W → Waits W → Type 0
+abbrev pub AreTentsSettled : {W : Type 0} → (W → ℕ) → Kind → TentWaits W → TentWaits W → Type 0
 AreTentsSettled bits kind before now = (p : Tents) (K : Candidates)
     → AreTentsRested bits p before K
     → ((k : ℕ) → k < kind_lines p kind → AreIdle (kind_houses p kind k) K)
@@ -55,8 +55,8 @@ AreTentsSettled bits kind before now = (p : Tents) (K : Candidates)
 
 -- what waits once cells of these lines have lost 0, and cells of those 1: the lines of both, the trees of the rows that
 -- have lost 1 and of the rows beside these, and the squares of the rows that have lost 0
-pub record AreTentsWoken {W : Type 0} (bits : W → ℕ) (room : ℕ) (before : Waits W)
-    (zeros ones : Touched W) (now : Waits W)
+pub record AreTentsWoken {W : Type 0} (bits : W → ℕ) (room : ℕ) (before : TentWaits W)
+    (zeros ones : Touched W) (now : TentWaits W)
     : Type 0 where
   pub columns : (k : ℕ) → has_bit (bits now.columns) k
       ≡ (has_bit (bits before.columns) k

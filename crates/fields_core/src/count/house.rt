@@ -2,7 +2,7 @@
 #![tactic(auto, using(crate::proofs::LawSets::house_laws))]
 
 ghost use Rattle.std.specs.Prelude.{◌*◌, ◌+◌, ◌<◌, ◌^◌, ◌≡◌, ◌≤◌, Bool, ℕ, [], length, map, slice_index, true};
-ghost use Rattle.fields_core.specs.Common.{AreBelow, ArePassing, CountsPassing, IsCountIf, IsNext, TestsBelow, beside as beside_places, column_places, exactly, has_place, house_told, one_at_least, one_at_most, places_of, range_with_len, row_places, segment_places};
+ghost use Rattle.fields_core.specs.Common.{AreBelow, ArePassing, CountsPassing, IsCountIf, IsNext, TestsBelow, beside, column_places, exactly, has_place, house_told, one_at_least, one_at_most, places_of, range_with_len, row_places, segment_places};
 
 use grid_core::{Size, step};
 
@@ -157,10 +157,14 @@ fn count_cells(cells: &[Segment; 4]) -> usize
 }
 
 /// The cells beside the place that pass, in the order up, left, right, down.
-pub(crate) fn beside<F: Fn(usize) -> bool>(size: Size, place: usize, passes: F) -> [Segment; 4]
+pub(crate) fn segments_beside<F: Fn(usize) -> bool>(
+    size: Size,
+    place: usize,
+    passes: F,
+) -> [Segment; 4]
     requires place_in { place < size.w * size.h }
     requires callable { (c : ℕ) → c < size.w * size.h → F.pre passes c }
-    ensures { ArePassing (F.post passes) size (beside_places size place) (places_of result) }
+    ensures { ArePassing (F.post passes) size (beside size place) (places_of result) }
 {
     let mut cells = Segment::none().alone();
     for direction in 0..4 {
@@ -211,7 +215,7 @@ pub(crate) fn count_passing<F: Fn(usize) -> bool>(
     requires y_in { y < size.h }
     requires callable { (c : ℕ) → c < size.w * size.h → F.pre passes c }
     ensures count { CountsPassing (F.post passes) size
-        (beside_places size (y * size.w + x)) result }
+        (beside size (y * size.w + x)) result }
     ensures few { result ≤ 4 }
 {
     let (w, h) = (usize::from(size.w()), usize::from(size.h()));

@@ -3,7 +3,7 @@
 
 ghost use Rattle.std.specs.Prelude.{◌<◌, ◌≡◌, ℕ};
 ghost use Rattle.grid_core.specs.Board.{cells_of, has};
-ghost use Rattle.fields_core.specs.Common.{IsHouse, IsTally, has_bit, house_told, stays};
+ghost use Rattle.fields_core.specs.Common.{IsHouse, IsTally, has_bit, house_told, value_stays};
 
 use crate::count::house::{Bounds, House};
 use grid_core::Board;
@@ -39,7 +39,7 @@ impl Tally {
 
     /// What a visit of a house with these bounds keeps of a cell's set: of both values none whose bound is reached.
     pub(crate) fn kept(self, bounds: Bounds, both: bool) -> u32
-        ensures { (v : ℕ) → v < 2 → has_bit result v ≡ stays self bounds both v }
+        ensures { (v : ℕ) → v < 2 → has_bit result v ≡ value_stays self bounds both v }
     {
         let lacks = (self.empty > 0)
             | (bounds.most < bounds.least)

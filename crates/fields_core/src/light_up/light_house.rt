@@ -3,7 +3,7 @@
 ghost use Rattle.std.specs.Prelude.{◌*◌, ◌+◌, ◌<◌, ◌∷◌, ◌≡◌, [], length, true};
 ghost use Rattle.fields_core.specs.Common.{house_along, house_told, lit_house, number_house, white};
 
-use crate::count::house::{House, Segment, beside};
+use crate::count::house::{House, Segment, segments_beside};
 use crate::light_up::cells::is_white;
 use crate::light_up::line::WhiteLine;
 use gameid_core::{LightCell, LightPuzzle};
@@ -30,7 +30,7 @@ pub(crate) fn number_told(puzzle: &LightPuzzle, place: usize) -> House
         LightCell::Numbered(n) => n,
         _ => 0,
     };
-    let cells = beside(puzzle.size(), place, |other| is_white(puzzle, other));
+    let cells = segments_beside(puzzle.size(), place, |other| is_white(puzzle, other));
     House::exactly(ones, cells)
 }
 

@@ -2,7 +2,7 @@
 
 ghost use Rattle.std.specs.Prelude.{◌≡◌, true};
 ghost use Rattle.engine_core.specs.ClosingList.{IsAlive};
-ghost use Rattle.fields_core.specs.Common.{AreKept, HasBoard, IsClosedIn, IsClosedTo, IsCounted, IsFurther, IsSweep, Layers, Needs, has, rules_of};
+ghost use Rattle.fields_core.specs.Common.{AreKept, HasBoard, IsClosedIn, IsClosedByCounts, IsCounted, IsFurther, IsSweep, Layers, Needs, has, rules_of};
 
 use crate::count::game::CountGame;
 use crate::planes::rules::GridGame;
@@ -40,7 +40,7 @@ pub(crate) fn close<W: Word, P: GridGame, N: SweepNotes<W, P>>(
     requires board { HasBoard (rules_of (P.counts puzzle.now)) (P.extent puzzle.now) W.room
         planes.old }
     requires ready { N.ready puzzle.now planes.old notes.old }
-    ensures taken { IsClosedTo (P.counts puzzle.now) planes.old planes.new result.closing }
+    ensures taken { IsClosedByCounts (P.counts puzzle.now) planes.old planes.new result.closing }
     ensures turns { IsClosedIn (rules_of (P.counts puzzle.now)) (has planes.old) result.turns }
     ensures alive { IsAlive (rules_of (P.counts puzzle.now)) (has planes.new) }
     ensures further { IsFurther planes.old planes.new }

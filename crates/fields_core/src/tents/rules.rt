@@ -4,7 +4,7 @@
 ghost use Rattle.std.specs.Prelude.{◌≤◌, refl};
 
 use crate::count::game::CountGame;
-use crate::count::house::{House, Segment, beside, count_passing};
+use crate::count::house::{House, Segment, count_passing, segments_beside};
 use crate::count::name::HouseName;
 use crate::count::rules::CountRules;
 use crate::planes::rules::{GridGame, PlaneGame};
@@ -52,7 +52,7 @@ impl CountGame for TentsPuzzle {
                 House::exactly(row_number(self, place), row)
             }
             TentHouse::Tree => {
-                House::one_at_least(beside(size, place, |other| !is_tree(self, other)))
+                House::one_at_least(segments_beside(size, place, |other| !is_tree(self, other)))
             }
             TentHouse::Square => {
                 let none = Segment::none();

@@ -7,7 +7,7 @@ use crate::count::rules::CountRules;
 use crate::light_up::cells::{columns, rows};
 use crate::planes::closing::{SweepNotes, close};
 use crate::planes::light_up::tables::{LightTables, cells_of_row, write_runs};
-use crate::planes::light_up::waits::LineWaits;
+use crate::planes::light_up::waits::LightWaits;
 use engine_core::{Needs, PlaneNotes, Taken};
 use gameid_core::LightPuzzle;
 use grid_core::{Line, Planes, Word};
@@ -17,7 +17,7 @@ use std::alloc::{AllocError, Global};
 #[derive(Drop)]
 pub struct LightNotes<W: Word> {
     pub(crate) tables: LightTables<W>,
-    pub(crate) waits: LineWaits<W>,
+    pub(crate) waits: LightWaits<W>,
 }
 
 impl<W: Word> LightTables<W> {
@@ -76,7 +76,7 @@ impl<W: Word> PlaneNotes<W, CountRules<LightPuzzle>> for LightNotes<W> {
     fn new(alloc: Global, made: Needs) -> Result<LightNotes<W>, AllocError> {
         Ok(LightNotes {
             tables: LightTables::new(alloc, made.cells)?,
-            waits: LineWaits::all(),
+            waits: LightWaits::all(),
         })
     }
 
@@ -92,7 +92,7 @@ impl<W: Word> PlaneNotes<W, CountRules<LightPuzzle>> for LightNotes<W> {
         _scratch: &mut (),
         from: Option<usize>,
     ) -> Taken {
-        self.waits = LineWaits::begin(planes, &rules.puzzle, from);
+        self.waits = LightWaits::begin(planes, &rules.puzzle, from);
         close(self, planes, &rules.puzzle)
     }
 

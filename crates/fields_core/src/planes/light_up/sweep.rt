@@ -2,7 +2,7 @@
 #![tactic(auto, using(crate::proofs::LawSets::tent_sweep_laws))]
 
 ghost use Rattle.std.specs.Prelude.{◌≡◌, true};
-ghost use Rattle.fields_core.specs.Common.{AreLightsReady, AreVisited, all_runs, in_grid, in_rows, lit_house, numbers_of_row, white_houses};
+ghost use Rattle.fields_core.specs.Common.{AreLightsReady, AreVisited, all_runs, houses_in_grid, houses_in_rows, lit_house, numbers_of_row, white_houses};
 
 use crate::planes::light_up::light_notes::LightNotes;
 use crate::planes::light_up::visits::visit_numbers;
@@ -14,7 +14,7 @@ impl<W: Word> LightNotes<W> {
     /// Visits the numbers that wait, up to one whose house has no filling, and wakes what lost values may bind.
     pub(crate) fn sweep_numbers(&mut self, planes: &mut Planes<W>, puzzle: &LightPuzzle) -> bool
         requires ready { AreLightsReady W.bits W.room puzzle.now planes.old self.old }
-        ensures visited { AreVisited (in_rows puzzle.now numbers_of_row)
+        ensures visited { AreVisited (houses_in_rows puzzle.now numbers_of_row)
             planes.old planes.new result }
         ensures ready { result ≡ true
             → AreLightsReady W.bits W.room puzzle.now planes.new self.new }
@@ -67,7 +67,8 @@ impl<W: Word> LightNotes<W> {
     /// a cell that is passed for its column run, none of that run is looked at.
     fn sweep_cells(&mut self, planes: &mut Planes<W>, puzzle: &LightPuzzle) -> bool
         requires ready { AreLightsReady W.bits W.room puzzle.now planes.old self.old }
-        ensures visited { AreVisited (in_grid puzzle.now lit_house) planes.old planes.new result }
+        ensures visited { AreVisited (houses_in_grid puzzle.now lit_house) planes.old
+            planes.new result }
         ensures ready { result ≡ true
             → AreLightsReady W.bits W.room puzzle.now planes.new self.new }
         ensures kept { self.new.tables ≡ self.old.tables }

@@ -1,7 +1,7 @@
 //! Visits of the houses of Light Up by the words that are kept of a puzzle.
 
 ghost use Rattle.std.specs.Prelude.{◌≡◌, ℕ, ◌+◌, ◌*◌, ◌<◌, ◌≤◌, ◌&&◌, ◌||◌, ◌==◌, true, IfNone, IfSome, is_some, length, map, nat_lt};
-ghost use Rattle.fields_core.specs.Common.{AreAroundAlong, AreIdleBut, ArePlanesAlive, ArePlanesOf, AreRunsVisited, AreSafe, AreSafeInColumns, AreTables, AreVisited, AreWhitesIdleBut, IsClash, ReachesAlong, ReachesMarked, along, count_below, has, has_bit, house_at, line_board, line_len, lines_beside, lit_house, lits_of_row, number_house, number_of, numbers_of_row, run_houses, run_lines};
+ghost use Rattle.fields_core.specs.Common.{AreAroundAlong, AreIdleBut, ArePlanesAlive, ArePlanesOf, AreRunsVisited, AreSafe, AreSafeInColumns, AreTables, AreVisited, AreWhitesIdleBut, IsClash, ReachesAlong, ReachesMarked, word_along, count_below, has, has_bit, light_house_at, line_board, line_len, lines_beside, lit_house, lits_of_row, number_house, number_of, numbers_of_row, run_houses, run_lines};
 
 use crate::light_up::cells::columns;
 use crate::planes::light_up::tables::LightTables;
@@ -32,7 +32,8 @@ fn around<W: Word>(runs: &[W], first: usize, stride: usize, marked: W) -> Option
     requires marked_in { (k : ℕ) → has_bit (W.bits marked) k ≡ true → k < W.room }
     requires within { ReachesMarked (length runs.now) first stride (W.bits marked) }
     ensures around { IfSome result (AreAroundAlong W.bits W.room runs.now first stride marked) }
-    ensures clash { IfNone result (IsClash (along W.bits runs.now first stride) (W.bits marked)) }
+    ensures clash { IfNone result (IsClash (word_along W.bits runs.now first stride)
+        (W.bits marked)) }
 {
     let mut rest = marked;
     let mut bits = W::none();
@@ -60,7 +61,7 @@ fn visit_line<W: Word>(
     requires line_in { number_of line < lines_beside planes.old.size line }
     requires within { ReachesAlong (length runs.now) first stride (line_len planes.old.size line) }
     requires alive { ArePlanesAlive planes.old }
-    ensures { AreRunsVisited line (along W.bits runs.now first stride)
+    ensures { AreRunsVisited line (word_along W.bits runs.now first stride)
         planes.old planes.new result }
 {
     let zeros = planes.line(line, 0);
@@ -73,7 +74,7 @@ fn visit_line<W: Word>(
 }
 
 /// The places beside a place.
-fn beside<W: Word>(at: usize) -> W
+fn word_beside<W: Word>(at: usize) -> W
     requires { at < W.room }
     ensures { (k : ℕ) → k < W.room
         → has_bit (W.bits result) k ≡ ((k == at + 1) || (at == k + 1)) }
@@ -95,15 +96,15 @@ fn visit_number<W: Word>(
     requires y_in { y < puzzle.now.size.h }
     requires x_in { x < puzzle.now.size.w }
     requires alive { ArePlanesAlive planes.old }
-    ensures { AreVisited (house_at puzzle.now number_house y x) planes.old planes.new result }
+    ensures { AreVisited (light_house_at puzzle.now number_house y x) planes.old planes.new result }
 {
     let place = row_place(planes.size(), usize::from(y), usize::from(x));
     match puzzle.cell(place) {
         LightCell::White => true,
         LightCell::Black => true,
         LightCell::Numbered(number) => {
-            let row = beside::<W>(usize::from(x)).both(tables.rows[usize::from(y)]);
-            let column = beside::<W>(usize::from(y)).both(tables.columns[usize::from(x)]);
+            let row = word_beside::<W>(usize::from(x)).both(tables.rows[usize::from(y)]);
+            let column = word_beside::<W>(usize::from(y)).both(tables.columns[usize::from(x)]);
             let parts = Parts {
                 first: Part {
                     line: Line::Row(y),
@@ -187,7 +188,8 @@ impl<W: Word> LightTables<W> {
         requires tables { AreTables W.bits puzzle.now self.now }
         requires y_in { y < puzzle.now.size.h }
         requires x_in { x < puzzle.now.size.w }
-        ensures { AreVisited (house_at puzzle.now lit_house y x) planes.old planes.new result }
+        ensures { AreVisited (light_house_at puzzle.now lit_house y x) planes.old planes.new
+            result }
     {
         let place = usize::from(y) * columns(puzzle) + usize::from(x);
         let row = self.row_runs[place];

@@ -1,7 +1,7 @@
 //! Which numbers, runs and white cells of Light Up wait to be visited.
 
 ghost use Rattle.std.specs.Prelude.{◌≡◌, ◌<◌, ◌≤◌};
-ghost use Rattle.fields_core.specs.Common.{AreAlwaysRested, AreLinesRested, AreLinesWoken, AreLinesWokenSince, AreNumbersSettled, ArePlanesOf, AreRunLines, AreSettled, AreSpread, AreThoseMet, IsClosedBut, Light, has, has_bit, light_cells, light_rules, lit_house, run_houses, run_lines, waiting_runs};
+ghost use Rattle.fields_core.specs.Common.{AreAlwaysRested, AreLightsRested, AreLightsWoken, AreLightsWokenSince, AreNumbersSettled, ArePlanesOf, AreRunLines, AreLightsSettled, AreSpread, AreThoseMet, IsClosedBut, Light, has, has_bit, light_cells, light_rules, lit_house, run_houses, run_lines, waiting_runs};
 
 use gameid_core::LightPuzzle;
 use grid_core::{Planes, Touched, Word};
@@ -30,7 +30,7 @@ impl RunKind {
 /// The rows and columns whose runs wait. Of the numbers of a row that waits those wait that stand in one of the columns of
 /// numbers. A white cell waits if its house has a cell of both a column and a row of `ones`, in which 1 was lost.
 #[derive(Clone, Copy)]
-pub struct LineWaits<W> {
+pub struct LightWaits<W> {
     pub(crate) numbers: W,
     pub(crate) number_columns: W,
     rows: W,
@@ -57,9 +57,9 @@ fn spread<W: Word>(before: W, lines: W) -> W
     before.either(lines.on().either(lines).either(lines.back()))
 }
 
-impl<W: Word> LineWaits<W> {
+impl<W: Word> LightWaits<W> {
     /// At these columns and rows everything waits.
-    fn at(places: W) -> LineWaits<W>
+    fn at(places: W) -> LightWaits<W>
         ensures numbers { result.numbers ≡ places }
         ensures number_columns { result.number_columns ≡ places }
         ensures rows { result.rows ≡ places }
@@ -67,7 +67,7 @@ impl<W: Word> LineWaits<W> {
         ensures one_rows { result.ones.rows ≡ places }
         ensures one_columns { result.ones.columns ≡ places }
     {
-        LineWaits {
+        LightWaits {
             numbers: places,
             number_columns: places,
             rows: places,
@@ -77,18 +77,18 @@ impl<W: Word> LineWaits<W> {
     }
 
     /// Everything waits.
-    pub(crate) fn all() -> LineWaits<W>
+    pub(crate) fn all() -> LightWaits<W>
         ensures { AreAlwaysRested W.bits W.room result }
     {
-        LineWaits::at(W::all(W::places()))
+        LightWaits::at(W::all(W::places()))
     }
 
     /// What waits too once cells of both a column and a row of these have lost 0, and cells of those 1. While no cell of
     /// theirs loses 0, runs stay idle, and while none loses 1, white cells do.
-    pub(crate) fn woken(self, zeros: Touched<W>, ones: Touched<W>) -> LineWaits<W>
-        ensures { AreLinesWoken W.bits W.room self zeros ones result }
+    pub(crate) fn woken(self, zeros: Touched<W>, ones: Touched<W>) -> LightWaits<W>
+        ensures { AreLightsWoken W.bits W.room self zeros ones result }
     {
-        LineWaits {
+        LightWaits {
             numbers: spread(self.numbers, zeros.rows.either(ones.rows)),
             number_columns: spread(self.number_columns, zeros.columns.either(ones.columns)),
             rows: self.rows.either(zeros.rows),
@@ -123,7 +123,7 @@ impl<W: Word> LineWaits<W> {
 
     /// The runs of this kind wait no more: they are idle.
     pub(crate) fn settle_runs(&mut self, kind: RunKind)
-        ensures { AreSettled W.bits (λ p. run_houses p kind) (λ p. run_lines p kind)
+        ensures { AreLightsSettled W.bits (λ p. run_houses p kind) (λ p. run_lines p kind)
             self.old self.new }
     {
         match kind {
@@ -134,7 +134,7 @@ impl<W: Word> LineWaits<W> {
 
     /// The white cells wait no more: they are idle.
     pub(crate) fn settle_whites(&mut self)
-        ensures { AreSettled W.bits lit_house light_cells self.old self.new }
+        ensures { AreLightsSettled W.bits lit_house light_cells self.old self.new }
     {
         self.ones = lines(W::none());
     }
@@ -153,7 +153,7 @@ impl<W: Word> LineWaits<W> {
     /// Wakes what may be idle no more since the trail had that length.
     pub(crate) fn wake(&mut self, planes: &Planes<W>, len: usize)
         requires { len ≤ planes.now.len }
-        ensures { AreLinesWokenSince W.bits W.room len planes.now self.old self.new }
+        ensures { AreLightsWokenSince W.bits W.room len planes.now self.old self.new }
     {
         if planes.len() == len {
             return;
@@ -167,20 +167,20 @@ impl<W: Word> LineWaits<W> {
         planes: &Planes<W>,
         _puzzle: &LightPuzzle,
         from: Option<usize>,
-    ) -> LineWaits<W>
+    ) -> LightWaits<W>
         requires planes { ArePlanesOf W.room _puzzle.now planes.now }
         requires closed_but { IsClosedBut (light_rules _puzzle.now) (has planes.now) from }
-        ensures { AreLinesRested W.bits _puzzle.now result (has planes.now) }
+        ensures { AreLightsRested W.bits _puzzle.now result (has planes.now) }
     {
         let Some(place) = from else {
-            return LineWaits::all();
+            return LightWaits::all();
         };
         let (y, x) = planes.split(place);
         let cell = Touched {
             columns: W::one(x),
             rows: W::one(y),
         };
-        let none = LineWaits::at(W::none());
+        let none = LightWaits::at(W::none());
         let no_lines = lines(W::none());
         if planes.row(y as u8, 1).has(x) {
             return none.woken(cell, no_lines);

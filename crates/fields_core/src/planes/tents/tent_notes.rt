@@ -7,7 +7,7 @@ use crate::count::rules::CountRules;
 use crate::planes::closing::{SweepNotes, close};
 use crate::planes::tents::three_rows::ThreeRows;
 use crate::planes::tents::trees::cells_of_row;
-use crate::planes::tents::waits::{Kind, Waits};
+use crate::planes::tents::waits::{Kind, TentWaits};
 use crate::tents::pairs::PairingScratch;
 use engine_core::{Needs, PlaneNotes, Taken};
 use gameid_core::TentsPuzzle;
@@ -18,7 +18,7 @@ use std::alloc::{AllocError, Global};
 #[derive(Drop)]
 pub struct TentNotes<W> {
     pub(crate) trees: Fixed<W>,
-    pub(crate) waits: Waits<W>,
+    pub(crate) waits: TentWaits<W>,
 }
 
 impl<W: Word> PlaneNotes<W, CountRules<TentsPuzzle>> for TentNotes<W> {
@@ -31,7 +31,7 @@ impl<W: Word> PlaneNotes<W, CountRules<TentsPuzzle>> for TentNotes<W> {
     fn new(alloc: Global, _made: Needs) -> Result<TentNotes<W>, AllocError> {
         Ok(TentNotes {
             trees: Fixed::copies(alloc, W::none(), W::places())?,
-            waits: Waits::all(),
+            waits: TentWaits::all(),
         })
     }
 
@@ -61,7 +61,7 @@ impl<W: Word> PlaneNotes<W, CountRules<TentsPuzzle>> for TentNotes<W> {
         _scratch: &mut PairingScratch,
         from: Option<usize>,
     ) -> Taken {
-        self.waits = Waits::new(planes, &rules.puzzle, from);
+        self.waits = TentWaits::new(planes, &rules.puzzle, from);
         close(self, planes, &rules.puzzle)
     }
 

@@ -21,19 +21,19 @@ pub(crate) enum Kind {
 
 /// The lines of each kind that wait.
 #[derive(Clone, Copy)]
-pub struct Waits<W> {
+pub struct TentWaits<W> {
     columns: W,
     rows: W,
     trees: W,
     squares: W,
 }
 
-impl<W: Word> Waits<W> {
+impl<W: Word> TentWaits<W> {
     /// At these lines all kinds wait.
-    fn at(lines: W) -> Waits<W>
+    fn at(lines: W) -> TentWaits<W>
         ensures { (kind : Kind) → waiting W.bits result kind ≡ W.bits lines }
     {
-        Waits {
+        TentWaits {
             columns: lines,
             rows: lines,
             trees: lines,
@@ -42,22 +42,22 @@ impl<W: Word> Waits<W> {
     }
 
     /// Everything waits.
-    pub(crate) fn all() -> Waits<W>
+    pub(crate) fn all() -> TentWaits<W>
         ensures { (p : Tents) (K : Candidates) → IsSuited p.size W.room
             → AreTentsRested W.bits p result K }
     {
-        Waits::at(W::all(W::places()))
+        TentWaits::at(W::all(W::places()))
     }
 
     /// What waits where a closing begins: what a value counts for that the cell `from` has lost, or all where none is named.
-    pub(crate) fn new(planes: &Planes<W>, puzzle: &TentsPuzzle, from: Option<usize>) -> Waits<W>
+    pub(crate) fn new(planes: &Planes<W>, puzzle: &TentsPuzzle, from: Option<usize>) -> TentWaits<W>
         requires lawful { IsTents puzzle.now }
         requires board { HasBoard (tent_rules puzzle.now) puzzle.now.size W.room planes.now }
         requires closed_but { IsClosedBut (tent_rules puzzle.now) (has planes.now) from }
         ensures { AreTentsRested W.bits puzzle.now result (has planes.now) }
     {
         let Some(place) = from else {
-            return Waits::all();
+            return TentWaits::all();
         };
         let (y, x) = planes.split(place);
         let none = W::none();
@@ -70,16 +70,16 @@ impl<W: Word> Waits<W> {
             rows: W::one(y),
         };
         if planes.has(place, 1) {
-            return Waits::at(none).woken(lines, no_lines);
+            return TentWaits::at(none).woken(lines, no_lines);
         }
-        Waits::at(none).woken(no_lines, lines)
+        TentWaits::at(none).woken(no_lines, lines)
     }
 
     /// Lets lines wait that have lost a value, trees beside which 1 is lost, and squares that have lost 0.
-    pub(crate) fn woken(self, zeros: Touched<W>, ones: Touched<W>) -> Waits<W>
+    pub(crate) fn woken(self, zeros: Touched<W>, ones: Touched<W>) -> TentWaits<W>
         ensures { AreTentsWoken W.bits W.room self zeros ones result }
     {
-        Waits {
+        TentWaits {
             columns: self.columns.either(zeros.columns.either(ones.columns)),
             rows: self.rows.either(zeros.rows.either(ones.rows)),
             trees: self

@@ -1,4 +1,4 @@
-use Rattle.fields_core.proofs.Common.{AreWritten, has_bit, length, map, ◌-◌, ◌≡◌, ◌≤◌}
+use Rattle.fields_core.proofs.Common.{AreWordsWritten, has_bit, length, map, ◌-◌, ◌≡◌, ◌≤◌}
 use Rattle.fields_core.proofs.LightRunWords.{AreNumbersLeft}
 use Rattle.fields_core.proofs.planes.light_up.tables.write_runs.Given as goal
 
@@ -6,7 +6,7 @@ abbrev pub invariant-loop-blacks : goal.invariant-loop-blacks
 invariant-loop-blacks g l = let bits = g.W.Word.bits in record {
   low : l.start ≤ l.len;
   left : AreNumbersLeft (has_bit (bits l.fn.white)) l.len l.start (bits l.blacks);
-  written : AreWritten (has_bit (bits l.fn.white)) l.len l.first l.stride l.start (map bits l.fn.runs.items) (map bits l.runs.items);
+  written : AreWordsWritten (has_bit (bits l.fn.white)) l.len l.first l.stride l.start (map bits l.fn.runs.items) (map bits l.runs.items);
   long : length l.runs.items ≡ length l.fn.runs.items;
 }
 

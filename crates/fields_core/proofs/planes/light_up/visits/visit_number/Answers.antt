@@ -30,13 +30,13 @@ module _ (g : _) (c : After-from-ones g) where
 
   pub row : IsBeside p.size.w (λ k. white p (c.args.y * p.size.w + k)) c.args.x (g.W.Word.bits c.both-row.result)
   row = beside-word c.args.x _ _ _ (λ k. white p (c.args.y * p.size.w + k)) wide c.both-row.ensures
-      (rw (c.from-in-Numbered.ensures) at c.beside.ensures)
+      (rw (c.from-in-Numbered.ensures) at c.word_beside.ensures)
       (rw (row-read g.W.Word.bits c.args.tables.now.rows.items c.args.y c.index.result.now (omega (arith, c.requires.y_in, c.requires.tables.rows.long, length-map c.args.tables.now.rows.items g.W.Word.bits)) (rw (c.from-in-Numbered-2.ensures) at c.index.ensures))
       at (c.requires.tables.rows.each c.args.y c.requires.y_in))
 
   pub column : IsBeside p.size.h (λ k. white p (k * p.size.w + c.args.x)) c.args.y (g.W.Word.bits c.both-column.result)
   column = beside-word c.args.y _ _ _ (λ k. white p (k * p.size.w + c.args.x)) tall c.both-column.ensures
-      (rw (c.from-in-Numbered-3.ensures) at c.beside-in-Numbered.ensures)
+      (rw (c.from-in-Numbered-3.ensures) at c.word_beside-in-Numbered.ensures)
       (rw (row-read g.W.Word.bits c.args.tables.now.columns.items c.args.x c.index-in-Numbered.result.now (omega (arith, c.requires.x_in, c.requires.tables.columns.long, length-map c.args.tables.now.columns.items g.W.Word.bits)) (rw (c.from-in-Numbered-4.ensures) at c.index-in-Numbered.ensures))
       at (c.requires.tables.columns.each c.args.x c.requires.x_in))
 

@@ -1,5 +1,5 @@
 use Rattle.fields_core.proofs.LightSweeps.{lines-woken}
-use Rattle.fields_core.proofs.planes.light_up.waits.LineWaits.wake.Goals as goal
+use Rattle.fields_core.proofs.planes.light_up.waits.LightWaits.wake.Goals as goal
 
 pub returns : goal.returns
 returns g c = λ p from of was is further rested.

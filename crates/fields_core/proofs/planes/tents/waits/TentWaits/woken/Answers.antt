@@ -1,5 +1,5 @@
 use Rattle.fields_core.proofs.Common.{refl}
-use Rattle.fields_core.proofs.planes.tents.waits.Waits.woken.Goals as goal
+use Rattle.fields_core.proofs.planes.tents.waits.TentWaits.woken.Goals as goal
 
 pub returns : goal.returns
 returns g c = record {

@@ -1,6 +1,6 @@
 use Rattle.fields_core.proofs.Common.{refl, sym, ◌∙◌}
 use Rattle.fields_core.proofs.LightSweeps.{last-settled}
-use Rattle.fields_core.proofs.planes.light_up.waits.LineWaits.settle_numbers.Goals as goal
+use Rattle.fields_core.proofs.planes.light_up.waits.LightWaits.settle_numbers.Goals as goal
 
 pub returns-then-not-is_some : goal.returns-then-not-is_some
 returns-then-not-is_some g c = λ p K low rested idle.

@@ -1,8 +1,8 @@
 use Rattle.fields_core.proofs.Common.{AreLinesOf, eq-eqb, has, refl, sym, tent_counts, true≢false, ◌%◌, ◌/◌, ◌∙◌}
 use Rattle.fields_core.proofs.TentWaits.{place-in_planes, rested-at}
 use Rattle.fields_core.proofs.PlaneSweeps.{around-some}
-use Rattle.fields_core.proofs.planes.tents.waits.Waits.new.Goals as goal
-use Rattle.fields_core.proofs.planes.tents.waits.Waits.new.Goals.{After-one-2}
+use Rattle.fields_core.proofs.planes.tents.waits.TentWaits.new.Goals as goal
+use Rattle.fields_core.proofs.planes.tents.waits.TentWaits.new.Goals.{After-one-2}
 
 pub has-requires-clause-place_in : goal.has-requires-clause-place_in
 has-requires-clause-place_in g c = place-in_planes c.args.puzzle.now c.args.planes.now c.requires.board.same_size c.in-Some.is c.requires.closed_but

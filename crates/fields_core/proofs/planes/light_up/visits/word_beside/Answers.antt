@@ -1,5 +1,5 @@
 use Rattle.fields_core.proofs.Common.{arith, cases_eq, common_steps, eq-eqb, eqb, lt-ltb, ltb, ne_eqb, suc, zero, ℕ, ◌&&◌, ◌+◌, ◌-◌, ◌<◌, ◌||◌, ◌∙◌, ◌≡◌}
-use Rattle.fields_core.proofs.planes.light_up.visits.beside.Goals as goal
+use Rattle.fields_core.proofs.planes.light_up.visits.word_beside.Goals as goal
 
 -- one place further on, and one further back
 shifted : (room place k : ℕ) → k < room → ((ltb k room && (ltb 0 k && eqb (k - 1) place)) || eqb (k + 1) place) ≡ (eqb k (place + 1) || eqb place (k + 1))

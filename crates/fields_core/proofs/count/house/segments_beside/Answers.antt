@@ -1,7 +1,7 @@
 use Rattle.fields_core.proofs.Common.{[], ap, ap₂, arith, get_or-set_other, length-set, map, range_with_len, refl, rules, segment_places, steps, sym, ℕ, ◌*◌, ◌++◌, ◌+◌, ◌∙◌, ◌∷◌, ◌≡◌}
 use Rattle.fields_core.proofs.HouseLemmas.{each-empty, places-set, step-keep, step-none, step-skip}
-use Rattle.fields_core.proofs.count.house.beside.Goals as goal
-use Rattle.fields_core.proofs.count.house.beside.Goals.{in-Some+then-passes, in-Some+else-passes, in_default}
+use Rattle.fields_core.proofs.count.house.segments_beside.Goals as goal
+use Rattle.fields_core.proofs.count.house.segments_beside.Goals.{in-Some+then-passes, in-Some+else-passes, in_default}
 
 pub loop-direction-init : goal.loop-direction-init
 unfolding steps

@@ -1,5 +1,5 @@
 use Rattle.fields_core.proofs.Common.{refl, ◌+◌, ◌-◌, ◌∙◌}
-use Rattle.fields_core.proofs.planes.light_up.waits.LineWaits.woken.Goals as goal
+use Rattle.fields_core.proofs.planes.light_up.waits.LightWaits.woken.Goals as goal
 
 pub returns : goal.returns
 returns g c = record {

@@ -1,6 +1,6 @@
 use Rattle.fields_core.proofs.Common.{has_bit, lt-ltb, true, ℕ, ◌<◌, ◌∙◌, ◌≡◌}
 use Rattle.fields_core.proofs.LightSweeps.{lines-all}
-use Rattle.fields_core.proofs.planes.light_up.waits.LineWaits.all.Goals as goal
+use Rattle.fields_core.proofs.planes.light_up.waits.LightWaits.all.Goals as goal
 
 pub returns : goal.returns
 returns g c = λ p K lawful narrow low. lines-all g.W.Word.bits p _ K lawful narrow low

@@ -1,8 +1,8 @@
 use Rattle.fields_core.proofs.Common.{AreLinesOf, eq-eqb, has, light_counts, refl, sym, true≢false, ◌%◌, ◌/◌, ◌∙◌, ◌≡◌}
 use Rattle.fields_core.proofs.LightSweeps.{lines-at}
 use Rattle.fields_core.proofs.PlaneSweeps.{around-some}
-use Rattle.fields_core.proofs.planes.light_up.waits.LineWaits.begin.Goals as goal
-use Rattle.fields_core.proofs.planes.light_up.waits.LineWaits.begin.Goals.{After-has}
+use Rattle.fields_core.proofs.planes.light_up.waits.LightWaits.begin.Goals as goal
+use Rattle.fields_core.proofs.planes.light_up.waits.LightWaits.begin.Goals.{After-has}
 
 -- the lines of the cell
 own : (g : _) (c : After-has g) → AreLinesOf g.W.Word.bits (record { columns = c.one.result; rows = c.one-2.result })

@@ -1,5 +1,5 @@
 use Rattle.fields_core.proofs.Common.{Bool, Segment, TestsBelow, [], filter, get_or, length, places_of, segment_places, steps, ℕ, ◌*◌, ◌<◌, ◌≡◌, ◌≤◌}
-use Rattle.fields_core.proofs.count.house.beside.Given as goal
+use Rattle.fields_core.proofs.count.house.segments_beside.Given as goal
 
 abbrev pub invariant-loop-direction : goal.invariant-loop-direction
 invariant-loop-direction g l = record {
