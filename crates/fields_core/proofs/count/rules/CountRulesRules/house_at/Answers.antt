@@ -1,6 +1,6 @@
 use Rattle.fields_core.proofs.Common.{arith, count_house_of, has_place, length, rules, vec_len, ◌≡◌}
 use Rattle.fields_core.proofs.HouseLemmas.{named-long}
-use Rattle.fields_core.proofs.count.rules.CountRulesRules.light_house_at.Goals as goal
+use Rattle.fields_core.proofs.count.rules.CountRulesRules.house_at.Goals as goal
 
 pub returns : goal.returns
 returns g c =
