@@ -71,7 +71,7 @@ pub use Rattle.commands.specs.Common.{Extent, Game, HasOneReading, IdFault, IsAs
 pub use Rattle.commands.specs.Common.{IsPattern, IsPatternSolution, IsPrinted, IsRight, IsSolo, IsSoloSolution, IsTentSolution, IsTents, Light, Mark, Outcome}
 pub use Rattle.commands.specs.Common.{Pattern, RuleSystem, SizeRead, Solo, Solves, Tents, crossings_rules, extent_of, grid_of}
 pub use Rattle.commands.specs.Common.{hides_nothing, houses_rules, in_range, is_settled, is_solution-from, is_solution-is, light_cell, light_hides}
-pub use Rattle.commands.specs.Common.{light_rules, line_rules, line_rules-lawful, max_id, only, pattern_cell, rule_from_test, rules_of, scopes_of}
+pub use Rattle.commands.specs.Common.{light_rules, line_rules, line_rules-lawful, max_id, only, pattern_cell, rule_from_test, solo_rules_of, scopes_of}
 pub use Rattle.commands.specs.Common.{singles_rules, size_of, solo_cell, solo_extent, tent_hides, tent_rules, tents_cell, test_from_rule, verdict_of, walk}
 pub use Rattle.commands.specs.Each.{AllowsEach, Answered, BeginsLines, Begun, HasAnswers, Stopped, both, silence}
 pub use Rattle.commands.specs.Games.{game_of, puzzle_of}

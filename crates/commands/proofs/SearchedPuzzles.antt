@@ -1,5 +1,5 @@
 -- What searches rest on and find, for a puzzle of each game.
-use Rattle.commands.proofs.Common.{Bool, HasOne, HasOneAnswer, HasOneSolution, HasWords, IsFirstPassing, IsLawful, IsLight, IsLightSolution, IsPattern, IsPatternSolution, IsRight, IsSolo, IsSoloSolution, IsSolved, IsTentSolution, IsTents, IsTrueOf, Light, List, Making, Mark, Mark.Found, Mark.Trial, None, NonePasses, Option, Outcome, Outcome.GaveUp, Outcome.NoSolution, Outcome.OneSolution, Outcome.SeveralSolutions, Pattern, PuzzleFacts, RuleSystem, Solo, Solves, Some, Stream, Tents, [], arith, cases_Bool, cases_eq, cases_lt, common_steps, crossings_rules, false, filling_at, houses_lawful, houses_rules, inl, inr, is_one, is_solution-from, is_solution-is, light_rules, line_rules, line_rules-lawful, outcome, outcome-true, printed_by, refl, rule_from_test, rules_of, singles_rules, subst, suc, sym, tent_rules, test_from_rule, trials_in, true, true≢false, verdict_answer, verdict_of, walk, zero, ℕ, ◌<◌, ◌^◌, ◌↔◌, ◌∷◌, ◌≡◌, ◌≤◌, ◌⊎◌}
+use Rattle.commands.proofs.Common.{Bool, HasOne, HasOneAnswer, HasOneSolution, HasWords, IsFirstPassing, IsLawful, IsLight, IsLightSolution, IsPattern, IsPatternSolution, IsRight, IsSolo, IsSoloSolution, IsSolved, IsTentSolution, IsTents, IsTrueOf, Light, List, Making, Mark, Mark.Found, Mark.Trial, None, NonePasses, Option, Outcome, Outcome.GaveUp, Outcome.NoSolution, Outcome.OneSolution, Outcome.SeveralSolutions, Pattern, PuzzleFacts, RuleSystem, Solo, Solves, Some, Stream, Tents, [], arith, cases_Bool, cases_eq, cases_lt, common_steps, crossings_rules, false, filling_at, houses_lawful, houses_rules, inl, inr, is_one, is_solution-from, is_solution-is, light_rules, line_rules, line_rules-lawful, outcome, outcome-true, printed_by, refl, rule_from_test, solo_rules_of, singles_rules, subst, suc, sym, tent_rules, test_from_rule, trials_in, true, true≢false, verdict_answer, verdict_of, walk, zero, ℕ, ◌<◌, ◌^◌, ◌↔◌, ◌∷◌, ◌≡◌, ◌≤◌, ◌⊎◌}
 use Rattle.std.proofs.lemmas.Nat.{mod_below}
 use Rattle.rand_core.specs.Steps.{stream_of}
 use Rattle.rand_chacha.specs.Block.{block_word}
@@ -75,7 +75,7 @@ pub pattern_accepted : (p : Pattern) (g : List ℕ) → Solves (line_rules p) g 
 pattern_accepted p g = grind (arith, common_steps, is_solution-is, is_solution-from)
 
 -- by each rule set
-pub solo_accepted : {p : Solo} → IsSolo p → (settled : Bool) (houses : List House) (g : List ℕ) → Solves (rules_of settled p houses) g ↔ IsSoloSolution p g
+pub solo_accepted : {p : Solo} → IsSolo p → (settled : Bool) (houses : List House) (g : List ℕ) → Solves (solo_rules_of settled p houses) g ↔ IsSoloSolution p g
 solo_accepted {p} ok settled houses g = grind (arith, common_steps, rule_from_test, test_from_rule)
 
 pub light_accepted : (p : Light) (g : List ℕ) → Solves (light_rules p) g ↔ IsLightSolution p g

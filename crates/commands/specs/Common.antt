@@ -31,7 +31,7 @@ pub use Rattle.pattern_core.specs.LineRules.{line_rules}
 pub use Rattle.pattern_core.specs.Solutions.{IsPatternSolution}
 pub use Rattle.rand_core.specs.Stream.{Stream}
 pub use Rattle.solo_core.specs.Faults.{IsSoloFault}
-pub use Rattle.solo_core.specs.RuleSets.{crossings_rules, houses_rules, rules_of, singles_rules}
+pub use Rattle.solo_core.specs.RuleSets.{crossings_rules, houses_rules, solo_rules_of, singles_rules}
 pub use Rattle.solo_core.specs.Scopes.{scopes_of}
 pub use Rattle.solo_core.specs.SolutionLaws.{rule_from_test, test_from_rule}
 pub use Rattle.solo_core.specs.Solutions.{IsSoloSolution}

@@ -69,7 +69,7 @@ pub use Rattle.fields_core.specs.CountHouse.{AreHouses, AreMet, CountHouse, Coun
 pub use Rattle.fields_core.specs.CountHouse.{no_count_house, one_at_least, one_at_most, rules_of}
 unfoldable pub use Rattle.fields_core.specs.CountHouse.{after_house, houses_below, meets_house, start_of, strikes_of}
 pub use Rattle.fields_core.specs.CountLaws.{count-lawful}
-pub use Rattle.fields_core.specs.Houses.{AreAdded, AreNamed, TestsBelow, bounds_of, house_told, named, places_of, segment_places, sized}
+pub use Rattle.fields_core.specs.Houses.{AreAdded, AreNamed, TestsBelow, bounds_of, house_told, named, places_in_segments, segment_places, sized}
 pub use Rattle.fields_core.specs.Light.{bulb, bulbs_beside, is_white, light_cells, number_is}
 unfoldable pub use Rattle.fields_core.specs.Light.{black_right, bulb_right, clear, joined_in_column, joined_in_row, lit_right, number_right, sees, sees_bulb}
 unfoldable pub use Rattle.fields_core.specs.Light.{solves_lights, white}

@@ -1,5 +1,5 @@
 -- Count houses: lists, names and tallies of them.
-use Rattle.fields_core.proofs.Common.{AllByRecursion, AreAdded, AreNamed, Black, Bool, Candidates, CountHouse, Extent, HouseName, IsHouse, IsNext, IsTally, Light, LightCell, List, None, Numbered, Option, Segment, Some, Tally, White, [], add-one, any_below, ap, append-nil, ap₂, arith, at_drop_more, bool_byte, cases_Bool, column_places, common_steps, cond, cond-false, cond-true, count_by, count_by-le-length, count_house_of, div-mul-add, drop, drop_all, eq-eqb, eqb, eqb-true, exactly, false, false_from_ne_true, filter, filter-append, get_or, get_or-append_right, get_or-map, get_or-map-range_with_len, get_or_append_left, has_place, has_place-at, has_place-here, houses_below, if_there, is_empty, is_some, is_white, length, length-append, length-map, length-map-range_with_len, list_any, list_any-append, ltb, map, map-append, named, no_count_house, not, number_house, or_right, place-column, places_of, refl, row_places, segment_places, set, sized, slice_get, slice_get-get_or, slice_get_within, slice_index, step, steps, suc, sym, true, white, zero, ℕ, ◌&&◌, ◌*◌, ◌++◌, ◌+◌, ◌-◌, ◌<◌, ◌||◌, ◌∙◌, ◌∷◌, ◌≡◌, ◌≤◌}
+use Rattle.fields_core.proofs.Common.{AllByRecursion, AreAdded, AreNamed, Black, Bool, Candidates, CountHouse, Extent, HouseName, IsHouse, IsNext, IsTally, Light, LightCell, List, None, Numbered, Option, Segment, Some, Tally, White, [], add-one, any_below, ap, append-nil, ap₂, arith, at_drop_more, bool_byte, cases_Bool, column_places, common_steps, cond, cond-false, cond-true, count_by, count_by-le-length, count_house_of, div-mul-add, drop, drop_all, eq-eqb, eqb, eqb-true, exactly, false, false_from_ne_true, filter, filter-append, get_or, get_or-append_right, get_or-map, get_or-map-range_with_len, get_or_append_left, has_place, has_place-at, has_place-here, houses_below, if_there, is_empty, is_some, is_white, length, length-append, length-map, length-map-range_with_len, list_any, list_any-append, ltb, map, map-append, named, no_count_house, not, number_house, or_right, place-column, places_in_segments, refl, row_places, segment_places, set, sized, slice_get, slice_get-get_or, slice_get_within, slice_index, step, steps, suc, sym, true, white, zero, ℕ, ◌&&◌, ◌*◌, ◌++◌, ◌+◌, ◌-◌, ◌<◌, ◌||◌, ◌∙◌, ◌∷◌, ◌≡◌, ◌≤◌}
 use Rattle.fields_core.proofs.PlaceLists.{count-cons, num}
 
 -- Lists of count houses, as they are made.
@@ -47,33 +47,33 @@ segment-at s k lt = grind (arith, common_steps, segment-long, get_or-map-range_w
 
 -- ---- the cells of the segments from a number on
 pub places-more : (cells : List Segment) {i : ℕ} (d : Segment) → i < length cells
-    → places_of (drop i cells) ≡ segment_places (get_or cells i d) ++ places_of (drop (i + 1) cells)
-places-more cells {i} d lt = at_drop_more places_of cells i d lt
+    → places_in_segments (drop i cells) ≡ segment_places (get_or cells i d) ++ places_in_segments (drop (i + 1) cells)
+places-more cells {i} d lt = at_drop_more places_in_segments cells i d lt
 
 pub places-last : (cells : List Segment) (i : ℕ) (d : Segment) → i < length cells → length cells ≤ i + 1
-    → places_of (drop i cells) ≡ segment_places (get_or cells i d)
+    → places_in_segments (drop i cells) ≡ segment_places (get_or cells i d)
 places-last cells i d lt last = grind (arith, common_steps, places-more, append-nil)
 
 -- the cell is in the first of them, or in a later one
 pub place-here : (cells : List Segment) (i left : ℕ) (d : Segment) → i < length cells → left < length (segment_places (get_or cells i d))
-    → slice_index (places_of (drop i cells)) left ≡ slice_index (segment_places (get_or cells i d)) left
+    → slice_index (places_in_segments (drop i cells)) left ≡ slice_index (segment_places (get_or cells i d)) left
 place-here cells i left d lt low = grind (arith, common_steps, places-more, get_or_append_left, slice_index)
 
 pub place-later : (cells : List Segment) (i left : ℕ) (d : Segment) → i < length cells → length (segment_places (get_or cells i d)) ≤ left
-    → slice_index (places_of (drop i cells)) left ≡ slice_index (places_of (drop (i + 1) cells)) (left - length (segment_places (get_or cells i d)))
+    → slice_index (places_in_segments (drop i cells)) left ≡ slice_index (places_in_segments (drop (i + 1) cells)) (left - length (segment_places (get_or cells i d)))
 place-later cells i left d lt low = grind (arith, common_steps, places-more, get_or-append_right, slice_index)
 
 pub left-within : (cells : List Segment) (i left : ℕ) (d : Segment) → i < length cells → length (segment_places (get_or cells i d)) ≤ left
-    → left < length (places_of (drop i cells)) → left - length (segment_places (get_or cells i d)) < length (places_of (drop (i + 1) cells))
+    → left < length (places_in_segments (drop i cells)) → left - length (segment_places (get_or cells i d)) < length (places_in_segments (drop (i + 1) cells))
 left-within cells i left d lt low within = grind (arith, common_steps, places-more, length-append)
 
 pub four-long : (cells : List Segment) (d : Segment) → length cells ≡ 4
-    → (get_or cells 0 d).len + (get_or cells 1 d).len + (get_or cells 2 d).len + (get_or cells 3 d).len ≡ length (places_of cells)
+    → (get_or cells 0 d).len + (get_or cells 1 d).len + (get_or cells 2 d).len + (get_or cells 3 d).len ≡ length (places_in_segments cells)
 four-long cells d four =
     omega (arith, rest 0 (omega arith), rest 1 (omega arith), rest 2 (omega arith), ap length (places-last cells 3 d (omega arith) (omega arith)), segment-long (get_or cells 3 d))
   where
-    rest : (i : ℕ) → i < length cells → length (places_of (drop i cells)) ≡ (get_or cells i d).len + length (places_of (drop (i + 1) cells))
-    rest i lt = ap length (places-more cells d lt) ∙ length-append _ _ ∙ ap (λ n. n + length (places_of (drop (i + 1) cells))) (sym (segment-long (get_or cells i d)))
+    rest : (i : ℕ) → i < length cells → length (places_in_segments (drop i cells)) ≡ (get_or cells i d).len + length (places_in_segments (drop (i + 1) cells))
+    rest i lt = ap length (places-more cells d lt) ∙ length-append _ _ ∙ ap (λ n. n + length (places_in_segments (drop (i + 1) cells))) (sym (segment-long (get_or cells i d)))
 
 -- ---- whether a cell is among some
 pub has-next : (xs : List ℕ) (c : ℕ) (found : Option ℕ) → IsNext (λ k. eqb (slice_index xs k) c) (length xs) 0 found → is_some found ≡ has_place xs c
@@ -81,12 +81,12 @@ has-next xs c (Some k) next = sym (rw (eqb-true _ _ next.2) at (has_place-here x
 has-next xs c None none = grind (arith, common_steps, false_from_ne_true, has_place-at, eq-eqb)
 
 -- ---- segments of which those from a number on are empty
-none-left : (cells : List Segment) (d : Segment) → ((k : ℕ) → k < length cells → segment_places (get_or cells k d) ≡ []) → places_of cells ≡ []
+none-left : (cells : List Segment) (d : Segment) → ((k : ℕ) → k < length cells → segment_places (get_or cells k d) ≡ []) → places_in_segments cells ≡ []
 none-left [] d none = refl
 none-left (c ∷ cells) d none = rw (none 0 (omega arith)) (none-left cells d (λ k lt. none (suc k) (omega arith)))
 
 pub places-set : (cells : List Segment) (i : ℕ) (s d : Segment) → i < length cells
-    → ((k : ℕ) → i ≤ k → k < length cells → segment_places (get_or cells k d) ≡ []) → places_of (set cells i s) ≡ places_of cells ++ segment_places s
+    → ((k : ℕ) → i ≤ k → k < length cells → segment_places (get_or cells k d) ≡ []) → places_in_segments (set cells i s) ≡ places_in_segments cells ++ segment_places s
 places-set [] i s d lt none = absurd (omega arith)
 places-set (c ∷ cells) zero s d lt none =
     rw (none 0 (omega arith) (omega arith), none-left cells d (λ k low. none (suc k) (omega arith) (omega arith))) (append-nil (segment_places s))
@@ -96,14 +96,14 @@ append-empty : (xs ys : List ℕ) → xs ++ ys ≡ [] → (xs ≡ []) × (ys ≡
 append-empty [] ys e = (refl, e)
 append-empty (x ∷ xs) ys e = absurd (omega (arith, ap length e))
 
-pub each-empty : (cells : List Segment) → places_of cells ≡ [] → (k : ℕ) (d : Segment) → k < length cells → segment_places (get_or cells k d) ≡ []
+pub each-empty : (cells : List Segment) → places_in_segments cells ≡ [] → (k : ℕ) (d : Segment) → k < length cells → segment_places (get_or cells k d) ≡ []
 each-empty [] e k d lt = absurd (omega arith)
-each-empty (c ∷ cells) e zero d lt = (append-empty (segment_places c) (places_of cells) e).0
-each-empty (c ∷ cells) e (suc k) d lt = each-empty cells (append-empty (segment_places c) (places_of cells) e).1 k d (omega arith)
+each-empty (c ∷ cells) e zero d lt = (append-empty (segment_places c) (places_in_segments cells) e).0
+each-empty (c ∷ cells) e (suc k) d lt = each-empty cells (append-empty (segment_places c) (places_in_segments cells) e).1 k d (omega arith)
 
 -- the cells of one line
 pub line-cells : (s none : Segment) (places : List ℕ) → segment_places s ≡ places → segment_places none ≡ []
-    → places_of (s ∷ none ∷ none ∷ none ∷ []) ≡ places
+    → places_in_segments (s ∷ none ∷ none ∷ none ∷ []) ≡ places
 line-cells s none places e n = rw (e, n) (append-nil places)
 
 -- ---- names that are added one after another
@@ -244,9 +244,9 @@ module _ {K : Candidates} {cells : ℕ} {house : CountHouse} where
   tally-first is = record { must_is = omega arith; may_is = omega arith; empty_is = omega arith; within = is.within }
 
   -- the cells of one segment, and those of the later ones
-  pub tally-segment : {t : Tally} (segments : List Segment) (n : ℕ) (s d : Segment) → IsTallyBefore K cells house (places_of (drop n segments)) t
+  pub tally-segment : {t : Tally} (segments : List Segment) (n : ℕ) (s d : Segment) → IsTallyBefore K cells house (places_in_segments (drop n segments)) t
       → n < length segments → s ≡ get_or segments n d
-      → IsTallyBefore K cells house (drop 0 (segment_places s) ++ places_of (drop (n + 1) segments)) t
+      → IsTallyBefore K cells house (drop 0 (segment_places s) ++ places_in_segments (drop (n + 1) segments)) t
   tally-segment segments n s d is lt e = rw (sym e) at (rw (places-more segments d lt) at is)
 
   module _ {t : Tally} (places rest : List ℕ) (k : ℕ) where
@@ -273,7 +273,7 @@ module _ {K : Candidates} {cells : ℕ} {house : CountHouse} where
   pub tally-few : {t : Tally} {rest : List ℕ} → IsTallyBefore K cells house rest t → IsHouse cells house → (t.must ≤ 512) × (t.may ≤ 512) × (t.empty ≤ 512)
   tally-few is of = grind (arith, common_steps, count_by-le-length)
 
-  pub tally-all : {t : Tally} (segments : List Segment) (n : ℕ) → IsTallyBefore K cells house (places_of (drop n segments)) t → length segments ≤ n
+  pub tally-all : {t : Tally} (segments : List Segment) (n : ℕ) → IsTallyBefore K cells house (places_in_segments (drop n segments)) t → length segments ≤ n
       → IsTally K house.places t
   tally-all segments n is ge = let i = rw (drop_all n segments ge) at is in record { must_is = omega (arith, i.must_is); may_is = omega (arith, i.may_is); empty_is = omega (arith, i.empty_is) }
 

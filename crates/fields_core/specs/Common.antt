@@ -26,7 +26,7 @@ pub use Rattle.fields_core.specs.CountHouse.{AcceptsJust, AreMet, CountHouse, Co
 pub use Rattle.fields_core.specs.CountHouse.{one_at_most, rules_of}
 unfoldable pub use Rattle.fields_core.specs.CountHouse.{after_house, houses_below}
 pub use Rattle.fields_core.specs.CountLaws.{count-lawful}
-pub use Rattle.fields_core.specs.Houses.{AreAdded, AreNamed, ArePassing, CountsPassing, IsCountIf, IsLongestNamed, TestsBelow, house_told, places_of, segment_places}
+pub use Rattle.fields_core.specs.Houses.{AreAdded, AreNamed, ArePassing, CountsPassing, IsCountIf, IsLongestNamed, TestsBelow, house_told, places_in_segments, segment_places}
 pub use Rattle.fields_core.specs.Light.{bulb, bulbs_beside, light_cells}
 unfoldable pub use Rattle.fields_core.specs.Light.{number_right, sees_bulb, white}
 pub use Rattle.fields_core.specs.LightFaults.{IsLightFault}

@@ -11,13 +11,13 @@ use Rattle.fields_core.specs.declared.count.house.Segment.{Segment}
 abbrev pub segment_places : Segment → List ℕ
 segment_places s = map (λ k. s.first + k * s.stride) (range_with_len 0 s.len)
 
-abbrev pub places_of : List Segment → List ℕ
-places_of segments = concat (map segment_places segments)
+abbrev pub places_in_segments : List Segment → List ℕ
+places_in_segments segments = concat (map segment_places segments)
 
 -- the house that is told
 abbrev pub house_told : House → CountHouse
 house_told house = record {
-  places = places_of house.cells;
+  places = places_in_segments house.cells;
   least = house.bounds.least;
   most = house.bounds.most;
 }

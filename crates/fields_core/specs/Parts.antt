@@ -14,12 +14,12 @@ pub record Piece : Type 0 where
 abbrev pub piece_of : {W : Type 0} → (W → ℕ) → Part W → Piece
 piece_of bits part = record { line = part.line; bits = bits part.cells }
 
-abbrev pub second_of : {W : Type 0} → (W → ℕ) → Option (Part W) → List Piece
-second_of bits None = []
-second_of bits (Some part) = piece_of bits part ∷ []
+abbrev pub second_piece_of : {W : Type 0} → (W → ℕ) → Option (Part W) → List Piece
+second_piece_of bits None = []
+second_piece_of bits (Some part) = piece_of bits part ∷ []
 
 abbrev pub pieces_of : {W : Type 0} → (W → ℕ) → Parts W → List Piece
-pieces_of bits parts = piece_of bits parts.first ∷ second_of bits parts.second
+pieces_of bits parts = piece_of bits parts.first ∷ second_piece_of bits parts.second
 
 abbrev pub piece_at : List Piece → ℕ → Piece
 piece_at pieces k = slice_index_or pieces k (record { line = Row 0; bits = 0 })

@@ -40,7 +40,7 @@ pub use Rattle.solo_core.specs.PeeledHouses.{IsPassedCell, IsPeeled, IsRest, IsS
 pub use Rattle.solo_core.specs.PeeledHouses.{meets, rest_of}
 pub use Rattle.solo_core.specs.QuickPairings.{PairsOneMore, IsBegun}
 pub use Rattle.solo_core.specs.RuleLaws.{crossings_lawful, crossings_sound, fillings_sound, houses_lawful, singles_lawful, singles_sound}
-pub use Rattle.solo_core.specs.RuleSets.{crossing_of, crossings_of, deciding, filled_houses, visited_house, house_by, houses_rules, rules_of, setting_of}
+pub use Rattle.solo_core.specs.RuleSets.{crossing_of, crossings_of, deciding, filled_houses, visited_house, house_by, houses_rules, solo_rules_of, setting_of}
 pub use Rattle.solo_core.specs.RuleSets.{single_houses, singles_rules}
 unfoldable pub use Rattle.solo_core.specs.RuleSets.{start}
 pub use Rattle.solo_core.specs.Scopes.{IsCrossingAt, crossing_scopes, scopes_of}

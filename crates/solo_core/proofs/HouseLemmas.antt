@@ -1,5 +1,5 @@
 -- Houses and crossings: their places, how they decide, and the start.
-use Rattle.solo_core.proofs.Common.{All, Block, Bool, Candidates, Column, Decision, Diagonal, FitsPlaces, House, IsDecided, IsSolo, IsSound, List, Listed, NamedHouse, Row, Solo, [], add-zero, all_below-from, all_houses, all_of, all_places, and_from, and_parts, ap, append-nil, append_assoc, arith, block-within, by_fillings-met, cases_Bool, common_steps, count_plain, count_x, crossing_scopes, crossings_of, deciding, div-mul-add, eqb, ext_get_or, false, filled_houses, fun_ext, get_or, get_or-append_right, get_or-map, get_or-map-range_with_len, get_or_append_left, given_stands, visited_house, house_by, house_count, house_of, house_places, houses_of, houses_rules, if◌then◌else◌, inl, inr, is_solo_solution, kept-decided, length, length-append, length-map, length-map-range_with_len, listed-different, listed-within, lists_house, ltb, map, map-append, map-map, map-range_with_len_more, mod-mul-add, mul-le, mul-le-mul_right, nat_tests, no_house, no_repeat, not, numbers_of, only, places_of, range_with_len, refl, rules_of, scopes_of, setting_of, slice_index, solo_cells, solo_n, some_numbers, start, strided, strikes_by_fillings, suc, sym, take, take-length, take_more, true, true≢false, zero, ℕ, ◌%◌, ◌&&◌, ◌*◌, ◌++◌, ◌+◌, ◌-◌, ◌/◌, ◌<◌, ◌||◌, ◌∙◌, ◌∷◌, ◌≡◌, ◌≤◌}
+use Rattle.solo_core.proofs.Common.{All, Block, Bool, Candidates, Column, Decision, Diagonal, FitsPlaces, House, IsDecided, IsSolo, IsSound, List, Listed, NamedHouse, Row, Solo, [], add-zero, all_below-from, all_houses, all_of, all_places, and_from, and_parts, ap, append-nil, append_assoc, arith, block-within, by_fillings-met, cases_Bool, common_steps, count_plain, count_x, crossing_scopes, crossings_of, deciding, div-mul-add, eqb, ext_get_or, false, filled_houses, fun_ext, get_or, get_or-append_right, get_or-map, get_or-map-range_with_len, get_or_append_left, given_stands, visited_house, house_by, house_count, house_of, house_places, houses_of, houses_rules, if◌then◌else◌, inl, inr, is_solo_solution, kept-decided, length, length-append, length-map, length-map-range_with_len, listed-different, listed-within, lists_house, ltb, map, map-append, map-map, map-range_with_len_more, mod-mul-add, mul-le, mul-le-mul_right, nat_tests, no_house, no_repeat, not, numbers_of, only, places_of, range_with_len, refl, solo_rules_of, scopes_of, setting_of, slice_index, solo_cells, solo_n, some_numbers, start, strided, strikes_by_fillings, suc, sym, take, take-length, take_more, true, true≢false, zero, ℕ, ◌%◌, ◌&&◌, ◌*◌, ◌++◌, ◌+◌, ◌-◌, ◌/◌, ◌<◌, ◌||◌, ◌∙◌, ◌∷◌, ◌≡◌, ◌≤◌}
 use Rattle.solo_core.specs.Work.{closed_lists}
 use Rattle.engine_core.specs.Keeping.{AreSetsOf, IsKept}
 use Rattle.solo_core.specs.declared.houses.visit.VisitName.{VisitName}
@@ -31,25 +31,25 @@ module _ (decides : Decision) (p : Solo) {h : ℕ} (lt : h < length (deciding de
 pub kept-houses : (settled : Bool) (p : Solo) (houses : List House)
     → All (IsSound (setting_of settled p houses)) houses → {h : ℕ} → h < length houses
     → {K : Candidates} {sets kept : List ℕ}
-    → AreSetsOf (rules_of settled p houses) h K sets → (struck : Bool)
+    → AreSetsOf (solo_rules_of settled p houses) h K sets → (struck : Bool)
     → (struck ≡ true → IsDecided (solo_n p) (house_of houses h).decides sets kept)
     → (struck ≡ false → IsDecided (solo_n p) (house_of houses h).decides sets sets)
-    → IsKept (rules_of settled p houses) h K struck kept
+    → IsKept (solo_rules_of settled p houses) h K struck kept
 kept-houses settled p houses sound {h} lt {K} {sets} {kept} are struck decided none = record {
   none = λ off. (is sets (none off) (λ _. refl)).none off;
   bits = λ on. (is kept (decided on) (λ off. absurd (true≢false (sym on ∙ off)))).bits on;
 }
   where
     is : (left : List ℕ) → IsDecided (solo_n p) (house_of houses h).decides sets left → (struck ≡ false → left ≡ sets)
-        → IsKept (rules_of settled p houses) h K struck left
-    is left = kept-decided (rules_of settled p houses) h (house_of houses h).decides K struck sets left (λ L d v. refl) (sound h no_house lt).different are
+        → IsKept (solo_rules_of settled p houses) h K struck left
+    is left = kept-decided (solo_rules_of settled p houses) h (house_of houses h).decides K struck sets left (λ L d v. refl) (sound h no_house lt).different are
 
 pub kept-deciding : (settled : Bool) (p : Solo) {decides : Decision} → All (IsSound (setting_of settled p (deciding decides p))) (deciding decides p)
     → {h : ℕ} → h < length (deciding decides p) → (K : Candidates) {sets kept : List ℕ}
-    → AreSetsOf (rules_of settled p (deciding decides p)) h K sets → (struck : Bool)
+    → AreSetsOf (solo_rules_of settled p (deciding decides p)) h K sets → (struck : Bool)
     → (struck ≡ true → IsDecided (solo_n p) decides sets kept)
     → (struck ≡ false → IsDecided (solo_n p) decides sets sets)
-    → IsKept (rules_of settled p (deciding decides p)) h K struck kept
+    → IsKept (solo_rules_of settled p (deciding decides p)) h K struck kept
 kept-deciding settled p {decides} sound lt K are struck decided none =
     kept-houses settled p (deciding decides p) sound lt are struck (rw (decides-at decides p lt) at decided) (rw (decides-at decides p lt) at none)
 

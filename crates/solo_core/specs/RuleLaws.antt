@@ -6,7 +6,7 @@ use Rattle.engine_core.specs.HouseSetsLaws.{by_fillings-monotone}
 use Rattle.engine_core.specs.HouseList.{AreScopesOf, all_places, listed_visits}
 use Rattle.engine_core.specs.ListedLaws.{listed-scopes, visits-listed}
 use Rattle.engine_core.specs.HouseRulesLaws.{by_houses-lawful, bound_enough, by_fillings-settles, by_fillings-keeps}
-use Rattle.solo_core.specs.RuleSets.{start, house_by, visited_house, deciding, crossings_of, setting_of, filled_houses, single_houses, crossing_of, rules_of, singles_rules, houses_rules, crossings_rules}
+use Rattle.solo_core.specs.RuleSets.{start, house_by, visited_house, deciding, crossings_of, setting_of, filled_houses, single_houses, crossing_of, solo_rules_of, singles_rules, houses_rules, crossings_rules}
 use Rattle.solo_core.specs.declared.houses.visit.VisitName.{VisitName}
 use Rattle.solo_core.specs.Scopes.{row_scope, column_scope, crossing_scopes}
 use Rattle.solo_core.specs.HouseLaws.{lists_house, listed-within, listed-different, some_numbers, each_value, all_houses, row_in, column_in}
@@ -16,11 +16,11 @@ use Rattle.solo_core.specs.SinglesLaws.{singles-monotone, singles-keeps}
 use Rattle.solo_core.specs.CrossingLaws.{crossing-monotone, crossing-settles, crossing-within, crossing-different, crossing-sound, HoldsEach}
 
 -- ---- the lists of the houses' places
-pub listed_in_rules : (settled : Bool) (p : Solo) (houses : List House) → AreScopesOf (rules_of settled p houses) (all_places houses)
+pub listed_in_rules : (settled : Bool) (p : Solo) (houses : List House) → AreScopesOf (solo_rules_of settled p houses) (all_places houses)
 listed_in_rules settled p houses = listed-scopes (setting_of settled p houses) houses
 
 pub bound_of_rules : (settled : Bool) (p : Solo) (houses : List House)
-    → (rules_of settled p houses).bound ≡ listed_visits (solo_n p) (all_places houses)
+    → (solo_rules_of settled p houses).bound ≡ listed_visits (solo_n p) (all_places houses)
 bound_of_rules settled p houses = visits-listed (solo_n p) houses
 
 module _ (p : Solo) (ok : IsSolo p) where
@@ -51,7 +51,7 @@ module _ (p : Solo) (ok : IsSolo p) where
     solutions_start = inside_start;
   }
 
-  pub rules_lawful : (settled : Bool) (houses : List House) → All (IsSound (setting_of settled p houses)) houses → IsLawful (rules_of settled p houses)
+  pub rules_lawful : (settled : Bool) (houses : List House) → All (IsSound (setting_of settled p houses)) houses → IsLawful (solo_rules_of settled p houses)
   rules_lawful settled houses sound = by_houses-lawful (setting_of settled p houses) houses (fine houses) sound
       (λ _. bound_enough (setting_of settled p houses) houses (omega arith)) (λ e. absurd (true≢false e))
 

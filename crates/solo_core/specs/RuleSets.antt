@@ -26,8 +26,8 @@ setting_of settled p houses = record {
   is_solution = is_solo_solution p;
 }
 
-abbrev pub rules_of : Bool → Solo → List House → RuleSystem
-rules_of settled p houses = by_houses (setting_of settled p houses) houses
+abbrev pub solo_rules_of : Bool → Solo → List House → RuleSystem
+solo_rules_of settled p houses = by_houses (setting_of settled p houses) houses
 
 -- a house of the puzzle with this decision, and all of them
 abbrev pub house_by : Decision → Solo → NamedHouse → House
@@ -41,14 +41,14 @@ abbrev pub single_houses : Solo → List House
 single_houses p = deciding (strikes_by_singles (solo_n p)) p
 
 abbrev pub singles_rules : Solo → RuleSystem
-singles_rules p = rules_of false p (single_houses p)
+singles_rules p = solo_rules_of false p (single_houses p)
 
 -- a house strikes what no filling of it without repeat allows
 abbrev pub filled_houses : Solo → List House
 filled_houses p = deciding (strikes_by_fillings no_repeat) p
 
 abbrev pub houses_rules : Solo → RuleSystem
-houses_rules p = rules_of true p (filled_houses p)
+houses_rules p = solo_rules_of true p (filled_houses p)
 
 -- a block and a line that it meets: what they strike, and the line's places outside the block
 abbrev pub crossing_of : Solo → ℕ → NamedHouse → House
@@ -71,7 +71,7 @@ abbrev pub crossing_decides : Solo → ℕ → Decision
 crossing_decides p number = (house_of (crossings_of p) number).decides
 
 abbrev pub crossings_rules : Solo → RuleSystem
-crossings_rules p = rules_of true p (filled_houses p ++ crossings_of p)
+crossings_rules p = solo_rules_of true p (filled_houses p ++ crossings_of p)
 
 -- the bits are those of the block's cells that are the line's too
 abbrev pub AreShared : Solo → ℕ → NamedHouse → ℕ → Type 0

@@ -122,7 +122,8 @@ fn take_whole<I: Source>(kept: &mut ReadText, input: &mut I) -> Result<(), Stop>
     requires unread { IsUnread I.Source input.old }
     requires empty { IsKeptText TEXT_LIMIT kept.old [] }
     ensures fine { OnOk result ((I.has_failed input.new ≡ false) × (I.has_ended input.new ≡ true)) }
-    ensures taken { OnOk result (Given I.gives input.old input.new (IsKeptText TEXT_LIMIT kept.new)) }
+    ensures taken { OnOk result
+        (Given I.gives input.old input.new (IsKeptText TEXT_LIMIT kept.new)) }
     ensures read { (seen : Text) × I.gives input.old seen input.new }
     ensures few { I.call_count input.new ≤ call_limit }
     ensures left { IfErr result (λ e. StopsWith I.Source e input.new false) }

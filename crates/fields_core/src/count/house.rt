@@ -2,7 +2,7 @@
 #![tactic(auto, using(crate::proofs::LawSets::house_laws))]
 
 ghost use Rattle.std.specs.Prelude.{◌*◌, ◌+◌, ◌<◌, ◌^◌, ◌≡◌, ◌≤◌, Bool, ℕ, [], length, map, slice_index, true};
-ghost use Rattle.fields_core.specs.Common.{AreBelow, ArePassing, CountsPassing, IsCountIf, IsNext, TestsBelow, beside, column_places, exactly, has_place, house_told, one_at_least, one_at_most, places_of, range_with_len, row_places, segment_places};
+ghost use Rattle.fields_core.specs.Common.{AreBelow, ArePassing, CountsPassing, IsCountIf, IsNext, TestsBelow, beside, column_places, exactly, has_place, house_told, one_at_least, one_at_most, places_in_segments, range_with_len, row_places, segment_places};
 
 use grid_core::{Size, step};
 
@@ -69,7 +69,7 @@ impl Segment {
 
     /// Its cells alone.
     pub(crate) fn alone(self) -> [Segment; 4]
-        ensures { places_of result ≡ segment_places self }
+        ensures { places_in_segments result ≡ segment_places self }
     {
         [self, Segment::none(), Segment::none(), Segment::none()]
     }
@@ -92,7 +92,7 @@ pub struct House {
 impl House {
     /// Cells that hold so many ones.
     pub(crate) fn exactly(ones: u8, cells: [Segment; 4]) -> House
-        ensures { house_told result ≡ exactly ones (places_of cells) }
+        ensures { house_told result ≡ exactly ones (places_in_segments cells) }
     {
         let most = u32::from(ones);
         let bounds = Bounds { least: most, most };
@@ -101,7 +101,7 @@ impl House {
 
     /// Cells that hold one 1 at most.
     pub(crate) fn one_at_most(cells: [Segment; 4]) -> House
-        ensures { house_told result ≡ one_at_most (places_of cells) }
+        ensures { house_told result ≡ one_at_most (places_in_segments cells) }
     {
         let bounds = Bounds { least: 0, most: 1 };
         House { cells, bounds }
@@ -109,7 +109,7 @@ impl House {
 
     /// Cells that hold one 1 at least.
     pub(crate) fn one_at_least(cells: [Segment; 4]) -> House
-        ensures { house_told result ≡ one_at_least (places_of cells) }
+        ensures { house_told result ≡ one_at_least (places_in_segments cells) }
     {
         let most = count_cells(&cells) as u32;
         let bounds = Bounds { least: 1, most };
@@ -149,7 +149,7 @@ impl House {
 
 /// How many cells segments have together.
 fn count_cells(cells: &[Segment; 4]) -> usize
-    ensures long { result ≡ length (places_of cells.now) }
+    ensures long { result ≡ length (places_in_segments cells.now) }
     ensures few { result < 2 ^ 10 }
 {
     let [a, b, c, d] = *cells;
@@ -164,7 +164,7 @@ pub(crate) fn segments_beside<F: Fn(usize) -> bool>(
 ) -> [Segment; 4]
     requires place_in { place < size.w * size.h }
     requires callable { (c : ℕ) → c < size.w * size.h → F.pre passes c }
-    ensures { ArePassing (F.post passes) size (beside size place) (places_of result) }
+    ensures { ArePassing (F.post passes) size (beside size place) (places_in_segments result) }
 {
     let mut cells = Segment::none().alone();
     for direction in 0..4 {

@@ -37,7 +37,7 @@ fn keep_cell(values: u8, sets: &[u32], place: usize) -> u32
         elsewhere = with_more_if(elsewhere, sets[j], j != place);
     }
     let set = without(sets[place], taken);
-    without(set, beside(values, without(sets[place], elsewhere)))
+    without(set, with_another(values, without(sets[place], elsewhere)))
 }
 
 /// The value of a set that has no other.
@@ -45,11 +45,11 @@ fn only_value(values: u8, set: u32) -> u32
     requires { values ≤ max_values }
     ensures { (v : ℕ) → v < values → is_set result v ≡ has_only_bit values set v }
 {
-    without(set, beside(values, set))
+    without(set, with_another(values, set))
 }
 
 /// The values beside which the set has another.
-fn beside(values: u8, set: u32) -> u32
+fn with_another(values: u8, set: u32) -> u32
     requires { values ≤ max_values }
     ensures { (v : ℕ) → v < values → is_set result v ≡ has_other_bit values set v }
 {

@@ -18,6 +18,6 @@ returns c = λ v lt.
     let sets = c.args.sets.now in let place = c.args.place in
     let all : c.loop-j.j ≡ length sets = omega (arith, c.loop-j-test.false) in
     let taken = rw all at (c.loop-j.invariant.taken v lt) in
-    let needed = c.beside.ensures v lt ∙ any_below-same _ (λ w. not (eqb w v) && is_only_place (length sets) (has_in sets) place w) c.args.values
+    let needed = c.with_another.ensures v lt ∙ any_below-same _ (λ w. not (eqb w v) && is_only_place (length sets) (has_in sets) place w) c.args.values
     (λ w lw. ap (λ b. not (eqb w v) && b) (c.without.ensures w ∙ ap (λ b. has_in sets place w && not b) (rw all at (c.loop-j.invariant.elsewhere w)))) in
     grind (arith, c.without-2.ensures v, c.without-set.ensures v, taken, needed)

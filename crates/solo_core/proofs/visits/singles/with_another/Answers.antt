@@ -1,7 +1,7 @@
 use Rattle.solo_core.proofs.Common.{arith, nat_tests, refl, zero-bits, ◌∙◌}
 use Rattle.solo_core.proofs.CrossingLemmas.{any-more, any-none}
 use Rattle.solo_core.proofs.BitLemmas.{bit_alone}
-use Rattle.solo_core.proofs.visits.singles.beside.Goals as goal
+use Rattle.solo_core.proofs.visits.singles.with_another.Goals as goal
 
 pub loop-value-init : goal.loop-value-init
 loop-value-init c = λ v lt. zero-bits v ∙ any-none _
