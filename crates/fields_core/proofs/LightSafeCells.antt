@@ -61,10 +61,10 @@ pub two-safe : {cells : ℕ → Bool} {K : Candidates} (c d : ℕ) → c < d →
 two-safe c d less in_c in_d on_c on_d = grind (arith, common_steps)
 
 -- the same of the cells of a line, as the board has them
-safe-line : {cells : ℕ → Bool} {K : Candidates} (run zeros ones : ℕ) (cell : ℕ → ℕ) → ((j k : ℕ) → cell j ≡ cell k → j ≡ k)
-    → ((k : ℕ) → has_bit run k ≡ true → (cells (cell k) ≡ true) × (K (cell k) 0 ≡ has_bit zeros k) × (K (cell k) 1 ≡ has_bit ones k))
-    → AreSafe (has_bit run) (line_board zeros ones) → AreSafe cells K
-safe-line run zeros ones cell own is safe =
+safe-line : {cells : ℕ → Bool} {K : Candidates} (run empties bulbs : ℕ) (cell : ℕ → ℕ) → ((j k : ℕ) → cell j ≡ cell k → j ≡ k)
+    → ((k : ℕ) → has_bit run k ≡ true → (cells (cell k) ≡ true) × (K (cell k) 0 ≡ has_bit empties k) × (K (cell k) 1 ≡ has_bit bulbs k))
+    → AreSafe (has_bit run) (line_board empties bulbs) → AreSafe cells K
+safe-line run empties bulbs cell own is safe =
     let one = is safe.one safe.one_in in let other = is safe.other safe.other_in in
     record {
       one = cell safe.one;

@@ -159,8 +159,8 @@ AreSafeInColumns p y bits K = (x : ℕ) → has_bit bits x ≡ true
 
 -- what two words say of the cells of a line: those that can have 0, and those that can have 1
 abbrev pub line_board : ℕ → ℕ → Candidates
-line_board zeros ones k zero = has_bit zeros k
-line_board zeros ones k (suc v) = has_bit ones k
+line_board empties bulbs k zero = has_bit empties k
+line_board empties bulbs k (suc v) = has_bit bulbs k
 
 -- the houses of the white cells of a row
 abbrev pub lits_of_row : Light → ℕ → List CountHouse
