@@ -66,11 +66,11 @@ impl ReadText {
         ensures { OnOk result ((piece : Text) → IsKeptText LINE_LIMIT self.old piece
             → IsKeptText LINE_LIMIT self.new (piece ++ byte ∷ [])) }
     {
-        if self.is_over || self.bytes.len() >= LINE_LIMIT {
+        if self.bytes.len() < LINE_LIMIT {
+            self.bytes.push(byte)?;
+        } else {
             self.is_over = true;
-            return Ok(());
         }
-        self.bytes.push(byte)?;
         Ok(())
     }
 
