@@ -21,9 +21,8 @@ import shutil
 import sys
 import tempfile
 
-sys.dont_write_bytecode = True
-from kit import Failed, Kit, run  # noqa: E402
-from module import build_module  # noqa: E402
+from kit import Failed, Kit, run
+from module import build_module
 
 HERE = pathlib.Path(__file__).resolve().parent
 CRATE = HERE.parent / "crates" / "puzzles_c"

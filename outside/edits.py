@@ -28,9 +28,10 @@ import tempfile
 import threading
 import time
 
-sys.dont_write_bytecode = True
-from edits_program import Failed, Kit, TestProgram  # noqa: E402
-from edits_tree import TOP, Copy, Edit, Fault, NotBuilt, below, crates_of  # noqa: E402
+import shared
+from edits_program import TestProgram
+from edits_tree import TOP, Copy, Edit, Fault, NotBuilt, below, crates_of
+from kit import Failed, Kit
 
 RIGHT = TOP / "outside/right_bodies"
 # The crates whose tests run, for an edit of the program's own two crates and for one of another.

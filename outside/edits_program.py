@@ -6,12 +6,9 @@ import os
 import re
 import shutil
 import subprocess
-import sys
 
 from edits_tree import CHOOSERS_CRATE, TOP, Fault, NotBuilt
-
-sys.path.insert(0, str(TOP / "library"))
-from kit import Failed, Kit, run  # noqa: E402
+from kit import Failed, run
 
 TARGET = ["--target=x86_64-unknown-linux-gnu", "-march=x86-64-v2"]
 CHOOSER = re.compile(rf'^define internal ([^@\n]*@"{CHOOSERS_CRATE}::is_edit"\([^)]*\)) .*?^}}$', re.M | re.S)

@@ -21,13 +21,11 @@ import tempfile
 import threading
 import time
 
-sys.dont_write_bytecode = True
-import library_cases as cases  # noqa: E402
-from lib.words import processor_seconds  # noqa: E402
-
-TOP = cases.TOP
-sys.path.insert(0, str(TOP / "examples" / "library"))
-import solve as example  # noqa: E402
+import shared
+import library_cases as cases
+import solve as example
+from lib.words import processor_seconds
+from shared import TOP
 
 STEP_SECONDS = 600
 BUILD_SECONDS = 4 * 3600

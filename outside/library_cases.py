@@ -5,15 +5,12 @@ No script. A text has a character for each byte, so that it can go to JavaScript
 import concurrent.futures
 import dataclasses
 import itertools
-import pathlib
 import random
 import subprocess
 import sys
 
-import shared
 from lib import real as ids
 
-TOP = pathlib.Path(__file__).resolve().parent.parent
 RUN_SECONDS = 120
 MAKING_SECONDS = 60  # of one kind
 WORKERS = 2

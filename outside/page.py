@@ -20,16 +20,10 @@ import sys
 import time
 from pathlib import Path
 
-sys.dont_write_bytecode = True
-sys.path.insert(0, str(Path(__file__).resolve().with_name("page")))
-import alone  # noqa: E402
-import browser  # noqa: E402
-import driver  # noqa: E402
-import faults  # noqa: E402
-import firefox  # noqa: E402
-import pictures  # noqa: E402
-from asked import CHECK, GENERATE, GRADE, HOST, RAW, REFUSED, REFUSED_MORE, SOLO, SOLVE  # noqa: E402
-from server import WAIT, WEB, Server, Tally  # noqa: E402
+import shared
+from page import alone, browser, driver, faults, firefox, pictures
+from page.asked import CHECK, GENERATE, GRADE, HOST, RAW, REFUSED, REFUSED_MORE, SOLO, SOLVE
+from page.server import WAIT, WEB, Server, Tally
 
 WHOLE = 5400  # seconds of the whole run
 CLIENTS, CALLS = 8, 1000

@@ -29,12 +29,10 @@ import sys
 import tempfile
 import threading
 
-sys.dont_write_bytecode = True
-import library_cases as cases  # noqa: E402
-
-TOP = cases.TOP
-sys.path.insert(0, str(TOP / "library"))
-import module  # noqa: E402
+import shared
+import library_cases as cases
+import module
+from shared import TOP
 
 BUILD_SECONDS = 4 * 3600
 ENGINE_SECONDS = 1800

@@ -9,10 +9,9 @@ import threading
 import time
 from pathlib import Path
 
-import browser
-import player
-from faults import FIFTH
-from server import PAGE, WAIT
+from . import browser, player
+from .faults import FIFTH
+from .server import PAGE, WAIT
 
 KINDS = {".js": "text/javascript", ".wasm": "application/wasm", ".webmanifest": "application/manifest+json"}
 VISITS = 12

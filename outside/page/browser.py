@@ -2,12 +2,8 @@
 import contextlib
 import tempfile
 
-import comfort
-import kept
-import looks
-import player
-import speed
-from driver import By, Keys, Page, WebDriverException
+from . import comfort, kept, looks, player, speed
+from .driver import By, Keys, Page, WebDriverException
 
 DESK = (1280, 800)
 GAMES = [  # game, size, seed, black cells as the page asks for

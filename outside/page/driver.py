@@ -1,9 +1,7 @@
 """The page of the folder page/ in a real browser, as a person sees and handles it."""
 import os
 import shutil
-import sys
 
-sys.path.append("/usr/lib/python3/dist-packages")  # Debian's packages, for a Python that isn't Debian's
 try:
     from selenium import webdriver
     from selenium.common.exceptions import WebDriverException

@@ -9,7 +9,7 @@ import tempfile
 import time
 from pathlib import Path
 
-from server import PAGE, WAIT, Server
+from .server import PAGE, WAIT, Server
 
 EXAMPLE = "case \"$*\" in *5x1:1/1//1/1/2.2) printf 'one\\n##.##\\n'; exit 0 ;; esac\n"  # what is asked at the start
 GOOD = {"game": "pattern", "id": "1x1:/"}

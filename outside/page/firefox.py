@@ -9,8 +9,7 @@ import tempfile
 import time
 from pathlib import Path
 
-import alone
-import browser
+from . import alone, browser
 
 WAIT = 60  # seconds of any wait
 START = 240  # seconds in which it has begun

@@ -2,8 +2,8 @@
 colours. For `outside/page.py`, and for a look by a person."""
 from pathlib import Path
 
-import browser
-from looks import media
+from . import browser
+from .looks import media
 
 SCREENS = {"desk": browser.DESK, "phone": (390, 664), "lying": (844, 390)}
 LOOKS = {"light": {"prefers_color_scheme": "light"}, "dark": {"prefers_color_scheme": "dark"},
