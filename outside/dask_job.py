@@ -27,8 +27,8 @@ import time
 import shared
 from lib.composed import pattern
 from lib.dask import JOB_SECONDS, Bench, cluster, free_port, has_dask
-from lib.trial import Wrong, ended, expect, wait_until
-from lib.work import begin
+from lib.trial import Wrong, expect, wait_until
+from lib.work import begin, end
 
 LINES = 100_000
 SIDE = 6
@@ -79,10 +79,10 @@ def lost_worker(bench):
             wait_until(whose.exists, JOB_SECONDS, "no part was held")
             owner = [worker for worker in started if str(worker.pid) == whose.read_text().strip()]
             expect(len(owner) == 1 and job.poll() is None, "the held part has no worker, or the job ended before")
-            ended(owner[0])
+            end(owner[0])
             status = job.wait(timeout=JOB_SECONDS)
         finally:
-            ended(job)
+            end(job)
     shutil.rmtree(held)
     found = (bench.folder / "output").read_bytes(), status
     expect(found == wanted, f"status {status}, {len(found[0])} bytes, wanted {wanted[1]}, {len(wanted[0])}")
@@ -145,10 +145,10 @@ def lost_scheduler(bench):
                                   env=bench.environment, start_new_session=True) as job:
                 try:
                     wait_until(begun.exists, JOB_SECONDS, "no part was begun")
-                    ended([scheduler, *workers][which])
+                    end([scheduler, *workers][which])
                     output, errors = job.communicate(timeout=JOB_SECONDS)
                 finally:
-                    ended(job)
+                    end(job)
         begun.unlink()
         expect((output, job.returncode) == (b"", 7) and b"lines 1 to 1:" in errors, f"status {job.returncode}: {errors.decode()}")
 

@@ -32,6 +32,7 @@ import shared
 from edits_program import TestProgram
 from edits_tree import TOP, Copy, Edit, Fault, NotBuilt, below, crates_of
 from kit import Failed, Kit
+from lib.work import end
 
 RIGHT = TOP / "outside/right_bodies"
 # The crates whose tests run, for an edit of the program's own two crates and for one of another.
@@ -108,9 +109,7 @@ def lines_of(words, folder, seconds):
             raise Fault(f"{' '.join(words)} didn't end within {seconds} seconds")
     finally:
         late.cancel()
-        if run.poll() is None:
-            os.killpg(run.pid, signal.SIGKILL)
-            run.wait()
+        end(run)
         run.stdout.close()
 
 

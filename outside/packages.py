@@ -24,8 +24,8 @@ import urllib.request
 
 import shared
 from examples.bench import DEBIAN, TOP, Bench
-from lib.trial import Wrong, ended, expect, wait_until
-from lib.work import begin
+from lib.trial import Wrong, expect, wait_until
+from lib.work import begin, end
 
 TOOLS = ("git", "dpkg", "dpkg-deb", "man", "lintian", "desktop-file-validate")
 PORT = 8031
@@ -136,7 +136,7 @@ def serves(packages, folder, path):
         for name in re.findall(r'(?:src|href)="([^":#]+)"', got("/")):
             expect(got(f"/{name.removeprefix('/')}") is not None, f"the page has no {name}")
     finally:
-        ended(run)
+        end(run)
         run.communicate()
 
 

@@ -23,7 +23,6 @@ import pathlib
 import queue
 import random
 import shutil
-import signal
 import subprocess
 import sys
 import tempfile
@@ -32,11 +31,11 @@ import threading
 import shared
 import library_cases as cases
 import module
+from lib.work import end
 from shared import TOP
 
 BUILD_SECONDS = 4 * 3600
 ENGINE_SECONDS = 1800
-END_SECONDS = 10
 FILES = [TOP / "outside" / "wasm_compare.js", TOP / "outside" / "wasm_page.html", TOP / "library" / "puzzles.js"]
 IN_NODE = """
 import { readFile } from "node:fs/promises";
@@ -126,12 +125,7 @@ def in_browser(name, folder):
         except queue.Empty:
             return {"fault": f"no result within {ENGINE_SECONDS} seconds"}
         finally:
-            os.killpg(browser.pid, signal.SIGTERM)
-            try:
-                browser.wait(END_SECONDS)
-            except subprocess.TimeoutExpired:
-                os.killpg(browser.pid, signal.SIGKILL)
-                browser.wait()
+            end(browser)
 
 
 def tell(name, found):

@@ -7,7 +7,8 @@ import shutil
 import socket
 import subprocess
 
-from lib.trial import ended, wait_until
+from lib.trial import wait_until
+from lib.work import end
 
 JOB = pathlib.Path(__file__).resolve().parents[1] / "dask" / "job.py"
 START_SECONDS = 120  # for a scheduler or a worker
@@ -80,7 +81,7 @@ def cluster(bench, workers, nannies=False):
         yield address, started[1:], started[0]
     finally:
         for process in started:
-            ended(process)
+            end(process)
 
 
 def has_dask(python):

@@ -1,10 +1,5 @@
-"""What the scripts share that try others: what is expected, and waits with a bound."""
-import contextlib
-import os
-import signal
+"""What the scripts share that try others: what is expected, and a wait with a bound."""
 import time
-
-SECONDS = 120  # for the end of a process that was killed
 
 
 class Wrong(Exception):
@@ -21,10 +16,3 @@ def wait_until(is_so, seconds, words):
     while not is_so():
         expect(time.monotonic() < end, f"no end within {seconds} seconds: {words}")
         time.sleep(.01)
-
-
-def ended(process):
-    """Ends a process with all of its session."""
-    with contextlib.suppress(ProcessLookupError):
-        os.killpg(process.pid, signal.SIGKILL)
-    process.wait(timeout=SECONDS)

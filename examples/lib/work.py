@@ -2,6 +2,7 @@
 
 Statuses: 2 words or an ID refused, 6 a fault of reading or writing, 7 a program that isn't there or fails, 130 stopped.
 """
+import contextlib
 import os
 import shutil
 import signal
@@ -12,6 +13,7 @@ import threading
 import time
 
 REFUSED, DISK, FAILED, STOPPED = 2, 6, 7, 130
+END_SECONDS = 120  # for the end of a process that was killed
 EXAMPLE = ("solve", "pattern", "--", "5x1:1/1//1/1/2.2"), ["one", "##.##"]
 
 
@@ -71,13 +73,10 @@ class Program:
 
 
 def end(child):
-    """Ends a process with all that it began."""
-    if child.returncode is None:
-        try:
-            os.killpg(child.pid, signal.SIGKILL)
-        except ProcessLookupError:
-            pass
-        child.wait()
+    """Ends a process of a session of its own with all that it began, also if it has ended itself."""
+    with contextlib.suppress(ProcessLookupError):
+        os.killpg(child.pid, signal.SIGKILL)
+    child.wait(END_SECONDS)
 
 
 class Bar:

@@ -12,8 +12,9 @@ import sys
 import time
 
 from lib import dask
-from lib.trial import ended, expect, wait_until
+from lib.trial import expect, wait_until
 from lib.words import processor_seconds
+from lib.work import end
 from puzzles.ids import read, written
 
 from .bench import DEBIAN, EXAMPLES, SECONDS, without_progress
@@ -111,7 +112,7 @@ def killed(bench):
         run = bench.start(words)
         time.sleep(draws.uniform(.05, taken * .6))
         kills += run.poll() is None
-        ended(run)
+        end(run)
         run.communicate()
     done = bench.run(words)
     expect(kills >= KILLS // 3, f"only {kills} of {KILLS} runs were killed before their end")
@@ -278,7 +279,7 @@ def graded_by(bench, words, grades, count):
                 told = now
                 print(f"graded by the job: {grades.read_bytes().count(10):,} of {count:,}", file=sys.stderr, flush=True)
     finally:
-        ended(job)
+        end(job)
     expect(job.returncode == 0, f"the job's status {job.returncode}: {errors.read_text()[-300:]}")
 
 
