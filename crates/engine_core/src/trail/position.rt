@@ -36,21 +36,30 @@ fn wait_from<S: RuleSet>(rules: &HouseRules<S>, from: Option<usize>, waits: &mut
     }
 }
 
-/// Marks the houses of each cell that the trail names from the number `from` on.
+/// Marks the houses of each cell that the trail names from the number `from` on. Those of a cell that has one value now are
+/// marked in `first` too, if last values are to be noted.
 fn wake_since<S: RuleSet>(
     rules: &HouseRules<S>,
     trailed: &TrailedBoard,
     from: usize,
     waits: &mut [u64],
+    first: &mut [u64],
+    notes_last: bool,
 )
     requires board_of { IsBoardOf (S.system (S.puzzle_of rules.now.set)) trailed.now.board }
     requires from_in { from ≤ trailed.now.len }
     requires room { words_of (S.system (S.puzzle_of rules.now.set)).houses ≤ length waits.old }
+    requires first_room { words_of (S.system (S.puzzle_of rules.now.set)).houses ≤ length first.old }
     ensures { AreWokenSince (S.system (S.puzzle_of rules.now.set)) trailed.now from
         waits.old waits.new }
 {
+    let board = trailed.board();
     for number in from..trailed.len() {
-        rules.wake(trailed.changed(number), waits);
+        let place = trailed.changed(number);
+        rules.wake(place, waits);
+        if notes_last && board.count(place) == 1 {
+            rules.wake(place, first);
+        }
     }
 }
 
@@ -85,7 +94,7 @@ impl<S: RuleSet> Model for TrailPosition<S> {
 impl<S: RuleSet> TrailPosition<S> {
     /// Visits the house, and marks the houses of each cell that lost a value in place of the house. Says whether the visit
     /// would leave a cell without a value: then what it left is open.
-    fn step(&mut self, rules: &HouseRules<S>, house: usize) -> bool
+    fn step(&mut self, rules: &HouseRules<S>, house: usize, notes_last: bool) -> bool
         requires along { IsAlong (S.system (S.puzzle_of rules.now.set)) self.old }
         requires alive { IsAlive (S.system (S.puzzle_of rules.now.set)) (board_in self.old) }
         requires house_in { house < (S.system (S.puzzle_of rules.now.set)).houses }
@@ -107,43 +116,32 @@ impl<S: RuleSet> TrailPosition<S> {
             return true;
         }
         let waits: &mut [u64] = &mut self.waits;
-        wake_since(rules, &self.trailed, before, waits);
+        wake_since(
+            rules,
+            &self.trailed,
+            before,
+            waits,
+            &mut self.first,
+            notes_last,
+        );
         dequeue_if(waits, house, S::SETTLED);
         false
     }
 
     /// Where to go on after a visit of the house: at the house after it, or at one in which a cell has got its last value, if
-    /// these come first. Marks those of this visit, which noted its changes from the number `before` on.
-    fn next_from(
-        &mut self,
-        rules: &HouseRules<S>,
-        house: usize,
-        before: usize,
-        singles_first: bool,
-    ) -> usize
+    /// these come first.
+    fn next_from(&mut self, rules: &HouseRules<S>, house: usize, singles_first: bool) -> usize
         requires along { IsAlong (S.system (S.puzzle_of rules.now.set)) self.old }
         requires house_in { house < (S.system (S.puzzle_of rules.now.set)).houses }
-        requires before_in { before ≤ self.old.trail.len }
         ensures same { self.new ≡ self.old }
         ensures within { result ≤ (S.system (S.puzzle_of rules.now.set)).houses }
     {
-        let houses = rules.houses();
-        if !singles_first && rules.values() <= FEW_VALUES {
-            return house + 1;
-        }
-        let board = self.trailed.board();
         let first: &mut [u64] = &mut self.first;
-        for number in before..self.trailed.len() {
-            let place = self.trailed.changed(number);
-            if board.count(place) == 1 {
-                rules.wake(place, first);
-            }
-        }
         dequeue(first, house);
         if !singles_first {
             return house + 1;
         }
-        next_around(first, house + 1, houses).unwrap_or(house + 1)
+        next_around(first, house + 1, rules.houses()).unwrap_or(house + 1)
     }
 
     /// Closes the board: goes around over the houses that wait and visits each, until none waits or a cell has no value. After
@@ -160,19 +158,19 @@ impl<S: RuleSet> TrailPosition<S> {
         ensures along { IsAlong (S.system (S.puzzle_of rules.now.set)) self.new }
         ensures onward { GoesOn self.old self.new }
     {
+        let is_many = rules.values() > FEW_VALUES;
         let mut turns = 0;
         let mut from = 0;
         while let Some(house) = next_around(&self.waits, from, rules.houses()) {
-            singles_first |= house < from && rules.values() > FEW_VALUES;
+            singles_first |= is_many && house < from;
             turns += 1;
-            let before = self.trailed.len();
-            if self.step(rules, house) {
+            if self.step(rules, house, is_many || singles_first) {
                 return Taken {
                     closing: Closing::Dead,
                     turns,
                 };
             }
-            from = self.next_from(rules, house, before, singles_first);
+            from = self.next_from(rules, house, singles_first);
         }
         Taken {
             closing: Closing::Open,

@@ -21,7 +21,7 @@ pub fn push_grid<P: Printed>(text: &mut String, puzzle: &P, grid: &Grid) -> Resu
         for x in 0..w {
             puzzle.push_cell(text, grid, y * w + x)?;
         }
-        text.push_str("\n")?;
+        text.push('\n')?;
     }
     Ok(())
 }

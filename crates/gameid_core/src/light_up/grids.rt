@@ -24,8 +24,8 @@ impl Printed for LightPuzzle {
 
     fn push_cell(&self, text: &mut String, grid: &Grid, place: usize) -> Result<(), AllocError> {
         match self.cells()[place] {
-            LightCell::White => text.push_str(if grid.get(place) == 1 { "O" } else { "." }),
-            LightCell::Black => text.push_str("#"),
+            LightCell::White => text.push(if grid.get(place) == 1 { 'O' } else { '.' }),
+            LightCell::Black => text.push('#'),
             LightCell::Numbered(number) => push_number(text, number),
         }
     }

@@ -22,7 +22,7 @@ impl Printed for PatternPuzzle {
     }
 
     fn push_cell(&self, text: &mut String, grid: &Grid, place: usize) -> Result<(), AllocError> {
-        text.push_str(if grid.get(place) == 1 { "#" } else { "." })
+        text.push(if grid.get(place) == 1 { '#' } else { '.' })
     }
 }
 

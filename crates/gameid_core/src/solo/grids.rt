@@ -27,7 +27,7 @@ impl Printed for SoloPuzzle {
 
     fn push_cell(&self, text: &mut String, grid: &Grid, place: usize) -> Result<(), AllocError> {
         if place % usize::from(self.n()) != 0 {
-            text.push_str(" ")?;
+            text.push(' ')?;
         }
         push_number(text, grid.get(place) + 1)
     }

@@ -22,9 +22,9 @@ impl Printed for TentsPuzzle {
 
     fn push_cell(&self, text: &mut String, grid: &Grid, place: usize) -> Result<(), AllocError> {
         if self.trees()[place] == 1 {
-            return text.push_str("T");
+            return text.push('T');
         }
-        text.push_str(if grid.get(place) == 1 { "^" } else { "." })
+        text.push(if grid.get(place) == 1 { '^' } else { '.' })
     }
 }
 

@@ -15,7 +15,7 @@ loop-number-preserved g c =
     let t = c.args.trailed.now in
     let le : c.args.from ≤ c.loop-number.number = omega arith in
     since-woken p t le c.loop-number.invariant
-    (rw c.changed.ensures.place at c.wake.ensures)
+    (rw c.changed-place.ensures.place at c.wake.ensures)
 
 pub returns : goal.returns
 returns g c = let all : c.loop-number.number ≡ c.args.trailed.now.len = omega arith in rw all at c.loop-number.invariant
