@@ -24,7 +24,8 @@ impl Printed for LightPuzzle {
 
     fn push_cell(&self, text: &mut String, grid: &Grid, place: usize) -> Result<(), AllocError> {
         match self.cells()[place] {
-            LightCell::White => text.push(if grid.get(place) == 1 { 'O' } else { '.' }),
+            LightCell::White if grid.get(place) == 1 => text.push('O'),
+            LightCell::White => text.push('.'),
             LightCell::Black => text.push('#'),
             LightCell::Numbered(number) => push_number(text, number),
         }

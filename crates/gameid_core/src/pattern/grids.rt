@@ -22,7 +22,11 @@ impl Printed for PatternPuzzle {
     }
 
     fn push_cell(&self, text: &mut String, grid: &Grid, place: usize) -> Result<(), AllocError> {
-        text.push(if grid.get(place) == 1 { '#' } else { '.' })
+        if grid.get(place) == 1 {
+            text.push('#')
+        } else {
+            text.push('.')
+        }
     }
 }
 

@@ -24,7 +24,11 @@ impl Printed for TentsPuzzle {
         if self.trees()[place] == 1 {
             return text.push('T');
         }
-        text.push(if grid.get(place) == 1 { '^' } else { '.' })
+        if grid.get(place) == 1 {
+            text.push('^')
+        } else {
+            text.push('.')
+        }
     }
 }
 
