@@ -5,7 +5,7 @@ use Rattle.solo_core.proofs.HouseLemmas.{all-length, crossing-after, crossings-c
 use Rattle.solo_core.proofs.CrossingLemmas.{any-more, any-none, cut_by, crossing-is, crossings-listed, rest-out, rest-in, rest-all, shared-below, shared-above}
 use Rattle.solo_core.proofs.SinglesLemmas.{singles_in_houses}
 use Rattle.solo_core.proofs.PeelLemmas.{lone-counts, counts-none, counts-more, peeled-step, counts-same, peeled-none, peeled-more, rest-peeled, settled-peeled}
-use Rattle.solo_core.proofs.MateLemmas.{goes_on_free, begun-none, goes_on_swapped, rest-more, rest-same}
+use Rattle.solo_core.proofs.MateLemmas.{goes_on_free, begun-none, goes_on_swapped}
 use Rattle.solo_core.proofs.WayLemmas.{over_none, over_next}
 use Rattle.solo_core.proofs.BitLemmas.{bits_joined, single_bit}
 use Rattle.solo_core.proofs.TurnLemmas.{after-root, before-root, all_inside, after-step, before-step}
@@ -41,8 +41,6 @@ pub ruleset laws_laws = (
 
 pub ruleset lists_laws = (append-nil, length-map-range_with_len, line-low, line-more)
 
-pub ruleset mates_laws = (rest-more, rest-same)
-
 pub ruleset peel_laws =
     (both-bits, either-bits, lone-counts, counts-none, counts-more, peeled-step, counts-same, peeled-none, peeled-more, rest-peeled, settled-peeled)
 
@@ -51,6 +49,8 @@ pub ruleset quick_laws = (both-bits, goes_on_free, begun-none, goes_on_swapped)
 pub ruleset reach_laws = (over_none, over_next)
 
 pub ruleset numbers_laws = (column_in, first-at, second-at, scopes-length, row_in, house-named, crossing-after, all-length)
+
+pub ruleset settle_laws = (both-bits, either-bits, zero-bits)
 
 pub ruleset start_laws = (started, started-none, started-all, started-blank, started-given, started-there)
 

@@ -6,6 +6,8 @@ pub mod RepeatLemmas
 pub mod HouseLemmas
 pub mod SinglesLemmas
 mod PeelLemmas
+mod NarrowLemmas
+mod SettledLemmas
 mod MateLemmas
 mod CrossingLemmas
 pub mod LawSets

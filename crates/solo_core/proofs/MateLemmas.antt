@@ -1,5 +1,5 @@
 -- Pairings of the cells with values, and how they go on.
-use Rattle.solo_core.proofs.Common.{AreDifferent, Bool, PairsOneMore, IsBegun, IsOutside, IsPaired, IsRest, IsShortRest, IsShownBy, KeepsFillings, List, PairsCells, [], ap, append-nil, arith, cases_Bool, cases_eq, cases_lt, common_steps, cond, different-filter, eq-eqb, eqb, eqb-true, false, false_from_ne_true, filter_of_map_range_with_len_more, get_or, get_or-map, get_or-map-range_with_len, get_or-range_with_len, get_or_past, has_bit, has_in, has_place, has_place-at, has_place-here, has_value, inl, inr, is_struck, length, length-map, length-map-range_with_len, length-range_with_len, map, map-id, nat_tests, no_choice, no_repeat, no_repeat_from_different, not, not-true, not_from_false, own_from_no_repeat, place-filter, place-kept, range_with_len, refl, rest_of, set_of_bits, shown_from_test, slice_index, suc, sym, test_from_shown, true, true_from_ne_false, true≢false, zero, ℕ, ◌++◌, ◌+◌, ◌<◌, ◌∙◌, ◌∷◌, ◌≡◌, ◌⊎◌, length-set, get_or-set_at, get_or-set_other, slice_set, get_or_append_left, get_or_push}
+use Rattle.solo_core.proofs.Common.{AreDifferent, Bool, PairsOneMore, IsBegun, IsOutside, IsPaired, IsRest, IsShortRest, IsShownBy, KeepsFillings, List, PairsCells, [], ap, append-nil, arith, cases_Bool, cases_eq, cases_lt, common_steps, cond, different-filter, eq-eqb, eqb, eqb-true, false, false_from_ne_true, filter_of_map_range_with_len_more, get_or, get_or-map, get_or-map-range_with_len, get_or-range_with_len, get_or_past, has_bit, has_in, has_place, has_place-at, has_place-here, has_value, inl, inr, is_struck, length, length-map, length-map-range_with_len, length-range_with_len, map, map-id, nat_tests, no_choice, no_repeat, no_repeat_from_different, not, not-true, not_from_false, own_from_no_repeat, place-filter, place-kept, range_with_len, refl, set_of_bits, shown_from_test, slice_index, suc, sym, test_from_shown, true, true_from_ne_false, true≢false, zero, ℕ, ◌++◌, ◌+◌, ◌<◌, ◌∙◌, ◌∷◌, ◌≡◌, ◌⊎◌, length-set, get_or-set_at, get_or-set_other, slice_set, get_or_append_left, get_or_push}
 
 -- A pairing of the cells with values is a filling without repeat, and a short set rules out every one. The values of the cells that
 -- are alone and a pairing of the rest make a pairing of the house.
@@ -62,46 +62,6 @@ pub struck_from_none : (sets : List ℕ) (n place value : ℕ)
 struck_from_none sets n place value none = true_from_ne_false (is_struck n sets place value) (λ e.
     let w = shown_from_test no_repeat (map (set_of_bits n) sets) place value e in
     none w.0 (pairing_of_filling sets n w.1) w.1.has_it)
-
--- ---- the rest, cell by cell
-rest-next : (k : ℕ) (cells : ℕ → Bool) → rest_of (k + 1) cells ≡ rest_of k cells ++ cond (not (cells k)) (k ∷ []) []
-rest-next k cells = simp map-id at (filter_of_map_range_with_len_more (λ j. not (cells j)) (λ j. j) 0 k k (omega arith))
-
-pub rest-more : (k : ℕ) (cells : ℕ → Bool) {rest : List ℕ} → rest ≡ rest_of k cells → cells k ≡ false → rest ++ k ∷ [] ≡ rest_of (k + 1) cells
-rest-more k cells e off = rw e (sym (rest-next k cells ∙ ap (λ b. rest_of k cells ++ cond (not b) (k ∷ []) []) off))
-
-pub rest-same : (k : ℕ) (cells : ℕ → Bool) {rest : List ℕ} → rest ≡ rest_of k cells → cells k ≡ true → rest ≡ rest_of (k + 1) cells
-rest-same k cells e on = e ∙ sym (rest-next k cells ∙ ap (λ b. rest_of k cells ++ cond (not b) (k ∷ []) []) on ∙ append-nil (rest_of k cells))
-
--- ---- which cells are in the rest
-module _ (n : ℕ) (cells : ℕ → Bool) where
-  abbrev rest : List ℕ
-  rest = rest_of n cells
-
-  pub rest-in : {i : ℕ} → i < length rest → (slice_index rest i < n) × (cells (slice_index rest i) ≡ false)
-  rest-in {i} lt =
-      let w = place-filter (λ k. not (cells k)) _ (slice_index rest i) (has_place-here rest i lt) in
-      let at = has_place-at _ (slice_index rest i) w.0 in
-      let low : at.0 < n = omega (arith, at.1, length-range_with_len 0 n) in
-      let is = get_or-range_with_len 0 n at.0 0 low in
-      (omega (arith, at.2, is), not-true (cells (slice_index rest i)) w.1)
-
-  pub rest-has : {k : ℕ} → k < n → cells k ≡ false → (i : ℕ) × (i < length rest) × (slice_index rest i ≡ k)
-  rest-has {k} lt off = has_place-at rest k (place-kept (λ j. not (cells j)) _ k in_range (not_from_false (cells k) off))
-    where
-      in_range : has_place (range_with_len 0 n) k ≡ true
-      in_range =
-          let e : slice_index (range_with_len 0 n) k ≡ k = omega (arith, get_or-range_with_len 0 n k 0 lt) in
-          rw e at (has_place-here (range_with_len 0 n) k (omega (arith, length-range_with_len 0 n)))
-
-  pub rest-different : AreDifferent rest
-  rest-different = grind (arith, common_steps, different-filter, length-range_with_len, get_or-range_with_len)
-
-pub rest-within : (n : ℕ) (cells : ℕ → Bool) {rest : List ℕ} → rest ≡ rest_of n cells → (i : ℕ) → i < length rest → slice_index rest i < n
-rest-within n cells e i lt = rw e ((rest-in n cells (rw e at lt)).0)
-
-pub rest-apart : (n : ℕ) (cells : ℕ → Bool) {rest : List ℕ} → rest ≡ rest_of n cells → AreDifferent rest
-rest-apart n cells e = rw e (rest-different n cells)
 
 -- the last number below n that passes
 pub last : ℕ → (ℕ → Bool) → ℕ

@@ -1,6 +1,6 @@
 -- Houses in which cells are alone, and houses that are whole.
-use Rattle.solo_core.proofs.Common.{AreAllCounts, AreAlone, AreLone, AreSettledCells, AreValueCounts, AreWhole, Bool, IsAlone, IsDropped, IsOutside, IsPeeled, IsRest, IsSingleSet, KeepsFillings, KeepsOthers, List, PairsCells, and_le_r, ap, arith, bit_and, both-bits, cases_Bool, cases_eq, common_steps, cond, eq-eqb, eqb, eqb-true, false, false_from_ne_true, get_or-map-range_with_len, has_bit, has_in, inl, inr, is_struck, length, length-map-range_with_len, ltb, map, meets, nat_tests, ne_eqb, no_repeat, none_missed, not, range_with_len, refl, rest_of, set_of_bits, shown_from_test, slice_index, suc, sym, true, true_from_ne_false, true≢false, zero, zero-bits, ℕ, ◌&&◌, ◌<◌, ◌^◌, ◌||◌, ◌∙◌, ◌≡◌, ◌≤◌, ◌⊎◌}
-use Rattle.solo_core.proofs.MateLemmas.{decided_by_all, last, last-below, last-passes, pairing_of_filling, rest-apart, rest-has, rest-in, rest-within, shown_by_pairing}
+use Rattle.solo_core.proofs.Common.{AreAllCounts, AreAlone, AreLone, AreSettledCells, AreValueCounts, AreWhole, Bool, IsAlone, IsDropped, IsOutside, IsPeeled, IsRest, IsSingleSet, KeepsFillings, KeepsOthers, List, PairsCells, and_le_r, ap, arith, bit_and, both-bits, cases_Bool, cases_eq, common_steps, cond, eq-eqb, eqb, eqb-true, false, false_from_ne_true, get_or-map-range_with_len, has_bit, has_in, inl, inr, is_struck, length, length-map-range_with_len, ltb, map, meets, nat_tests, ne_eqb, no_repeat, none_missed, not, range_with_len, refl, set_of_bits, shown_from_test, slice_index, suc, sym, true, true_from_ne_false, true≢false, zero, zero-bits, ℕ, ◌&&◌, ◌<◌, ◌^◌, ◌||◌, ◌∙◌, ◌≡◌, ◌≤◌, ◌⊎◌}
+use Rattle.solo_core.proofs.MateLemmas.{decided_by_all, last, last-below, last-passes, pairing_of_filling, shown_by_pairing}
 use Rattle.solo_core.proofs.BitLemmas.{none_in_zero, some_set}
 
 -- Striking the value of a cell that has one alone from the other cells takes no filling away.
@@ -137,52 +137,6 @@ module _ {n : ℕ} {old : List ℕ} (square : length old ≡ n) {some single sha
         let j = c.singles v (grind arith) in
         let has = j.2 v ∙ eq-eqb v v refl in
         (j.0, j.1, meets-here old lone j.0 v has on, has);
-  }
-
--- ---- the cells that do not have the values that are alone
-module _ {n : ℕ} {sets rest : List ℕ} {lone : ℕ} (l : AreLone n sets lone) (e : rest ≡ rest_of (length sets) (meets sets lone)) where
-  outside-meets : (k : ℕ) → k < length sets → IsOutside rest k → meets sets lone k ≡ true
-  outside-meets k lk out = true_from_ne_false (meets sets lone k)
-      (λ off. let w = rest-has (length sets) (meets sets lone) lk off in out w.0 (rw e w.1) (rw e w.2))
-
-  pub rest-is : length rest ≤ length sets → IsRest n sets rest
-  rest-is few = record {
-    few = few;
-    within = rest-within (length sets) (meets sets lone) e;
-    different = rest-apart (length sets) (meets sets lone) e;
-    alone = λ k lk out. l.alone k lk (outside-meets k lk out);
-  }
-
-  -- such a cell is not in the rest
-  meets-outside : (k : ℕ) → meets sets lone k ≡ true → IsOutside rest k
-  meets-outside k on t lt is =
-      let off = (rest-in (length sets) (meets sets lone) (rw e at lt)).1 in
-      true≢false (sym on ∙ ap (meets sets lone) (sym is ∙ ap (λ xs. slice_index xs t) e) ∙ off)
-
-  pub rest-settled : lone < 2 ^ 32 → AreSettledCells sets rest lone
-  rest-settled low = record {
-    has = λ j v on has.
-        let m = outside-meets j on.0 (λ t lt. on.1 t (omega arith) lt) in
-        let a = l.alone j on.0 m in
-        let at = some_set (bit_and (slice_index sets j) lone) (omega (arith, and_le_r (slice_index sets j) lone)) m in
-        let both = both-bits (slice_index sets j) lone at.0 in
-        let first : has_in sets j at.0 ≡ true = grind arith in
-        let same : at.0 ≡ v = a.only at.0 first ∙ sym (a.only v has) in
-        ap (has_bit lone) (sym same) ∙ grind arith;
-    singles = λ v on.
-        let h = l.held v on in
-        let a = l.alone h.0 h.1 h.2 in
-        let own = a.only v h.3 in (
-          h.0,
-          (h.1, λ t le lt is. meets-outside h.0 h.2 t lt is),
-          λ w. elim (cases_eq w v) [
-            | inl same ↦ ap (has_in sets h.0) same ∙ h.3 ∙ sym (eq-eqb w v same)
-            | inr ne ↦ false_from_ne_true (has_in sets h.0 w) (λ has. ne (a.only w has ∙ sym own)) ∙ sym (ne_eqb w v ne)
-          ],
-        );
-    shares = λ j k v on_j on_k ne has_j has_k.
-        let a = l.alone j on_j.0 (outside-meets j on_j.0 (λ t lt. on_j.1 t (omega arith) lt)) in
-        absurd (true≢false (sym has_k ∙ ap (has_in sets k) (a.only v has_j) ∙ a.apart k on_k.0 (λ same. ne (sym same))));
   }
 
 -- what stays of the rest is the rest

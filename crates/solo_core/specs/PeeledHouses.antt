@@ -1,7 +1,7 @@
 -- What may be struck from a house before its cells are paired with values: the value of a cell that has one alone, from
 -- the other cells; and the other values of a cell that is the only one with some value.
 use Rattle.std.specs.Prelude.{◌≡◌, ℕ, ◌<◌, ◌≤◌, ◌&&◌, ◌||◌, ◌==◌, ◌⊎◌, bit_and, Bool, true, false, not, nat_lt, List, length, slice_index}
-use Rattle.solo_core.specs.Common.{range_with_len, filter, AreDifferent, IsPairing, IsShortSet, has_bit, has_in, strikes_by_fillings, IsDecided, no_repeat}
+use Rattle.solo_core.specs.Common.{AreDifferent, IsPairing, IsShortSet, has_bit, has_in, strikes_by_fillings, IsDecided, no_repeat}
 
 -- each cell has a value of its own, which its set has
 abbrev pub PairsCells : ℕ → List ℕ → List ℕ → Type 0
@@ -37,10 +37,6 @@ AreAlone n sets cells = (k : ℕ) → k < length sets → cells k ≡ true → I
 -- whether the cell has one of the values whose bit is set
 abbrev pub meets : List ℕ → ℕ → ℕ → Bool
 meets sets values cell = not (bit_and (slice_index sets cell) values == 0)
-
--- the other cells
-abbrev pub rest_of : ℕ → (ℕ → Bool) → List ℕ
-rest_of n cells = filter (λ k. not (cells k)) (range_with_len 0 n)
 
 -- the cell is none of these from the i-th on, or none at all
 abbrev pub IsPassedCell : List ℕ → ℕ → ℕ → Type 0
@@ -115,6 +111,20 @@ AreAllCounts sets = AreValueCounts sets (λ k. k < length sets)
 abbrev pub AreSettledCells : List ℕ → List ℕ → ℕ → Type 0
 AreSettledCells sets rest values =
     AreValueCounts sets (λ k. (k < length sets) × IsPassedCell rest 0 k) values values 0
+
+-- the set has one value alone, which is not taken
+abbrev pub IsNewSingle : ℕ → ℕ → Type 0
+IsNewSingle taken set =
+    (v : ℕ) × (v < 32) × (has_bit set v ≡ true) × (has_bit taken v ≡ false) × IsSingleSet set v
+
+-- the first n cells but the rest have one value each, which no other of them has, and these values are settled
+pub record AreSettledBut (values : ℕ) (sets rest : List ℕ) (n settled : ℕ) : Type 0 where
+  pub few : length rest ≤ n
+  pub within : (t : ℕ) → t < length rest → slice_index rest t < n
+  pub different : AreDifferent rest
+  pub some : (k : ℕ) → k < n → IsOutside rest k → (v : ℕ) × (has_in sets k v ≡ true)
+  pub counts : AreValueCounts sets (λ k. (k < n) × IsPassedCell rest 0 k) settled settled 0
+  pub below : (v : ℕ) → has_bit settled v ≡ true → v < values
 
 -- the set has another value, and no other set has that one, or some set has this one alone
 abbrev pub IsDropped : ℕ → ℕ → ℕ → ℕ → ℕ → Type 0

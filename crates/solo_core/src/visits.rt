@@ -8,5 +8,6 @@ pub(crate) mod mates;
 pub(crate) mod peel;
 pub(crate) mod quick;
 pub(crate) mod reach;
+pub(crate) mod settle;
 pub(crate) mod singles;
 pub(crate) mod turning;

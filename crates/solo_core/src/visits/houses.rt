@@ -7,9 +7,10 @@ ghost use Rattle.solo_core.specs.PeeledHouses.{AreLone, IsPaired, IsRest, KeepsF
 
 use crate::visits::bits::{next_bit, others_below, with_bit_if};
 use crate::visits::graph::MANY;
-use crate::visits::mates::{list_rest, pair_rest};
-use crate::visits::peel::{are_whole, copy_counted, peel};
+use crate::visits::mates::pair_rest;
+use crate::visits::peel::{are_whole, peel};
 use crate::visits::reach::{close_under_steps, write_leads};
+use crate::visits::settle::{settle, strike_settled};
 use crate::visits::turning::lie_on_rounds;
 use arrayvec::ArrayVec;
 use engine_core::has_bit;
@@ -18,10 +19,10 @@ use grid_core::Pairing;
 /// Decides what is kept of the sets of a house: bit `v` of the `k`-th stays exactly where some filling without repeat
 /// has the value `v` in the `k`-th cell. Says whether anything may be struck; else nothing is, whatever is in `kept`.
 ///
-/// A cell that has alone what no other has is settled, and only the rest is looked at. There the values of cells that
-/// have one alone are struck from the others first. If none has, and the others have all other values each, nothing is
-/// struck. Else one filling of the rest is found by a pairing. Another one has the value `v` in a cell exactly where one
-/// can go from `v` back to the cell's value in the first filling, each time to a value that the cell of the last could
+/// A cell with one value alone is settled: its value is struck from the others, and only these are looked at. There the values
+/// of cells that have one alone are struck from the others first. If none has, and the others have all other values each,
+/// nothing more is struck. Else one filling of the rest is found by a pairing. Another one has the value `v` in a cell exactly
+/// where one can go from `v` back to the cell's value in the first filling, each time to a value that the cell of the last could
 /// have instead: the cells on the way change their values in turn.
 pub(crate) fn keep_houses(values: u8, sets: &[u32], kept: &mut [u32], pairing: &mut Pairing) -> bool
     requires few { values ≤ max_values }
@@ -32,23 +33,21 @@ pub(crate) fn keep_houses(values: u8, sets: &[u32], kept: &mut [u32], pairing: &
     ensures none { result ≡ false → KeepsFillings values sets.now sets.now }
     ensures room { pairing.new.room ≡ pairing.old.room }
 {
-    let counts = copy_counted(sets, kept);
-    let settled = counts.lone(values);
-    let is_open = counts.are_open();
-    if !is_open && are_whole(values, settled, sets) {
-        return false;
-    }
     let mut others = ArrayVec::new();
-    list_rest(sets, settled, &mut others);
+    let settled = settle(values, sets, kept, &mut others);
     let rest: &[u8] = &others;
-    if !is_open {
-        return keep_others(values, settled, rest, kept, pairing);
+    let (counts, is_struck) = strike_settled(values, settled, rest, kept);
+    if counts.are_open() {
+        let lone = peel(values, counts, settled, rest, kept);
+        if !are_whole(values, lone, kept) {
+            keep_others(values, lone, rest, kept, pairing);
+        }
+        return true;
     }
-    let lone = peel(values, counts, settled, rest, kept);
-    if !are_whole(values, lone, kept) {
-        keep_others(values, lone, rest, kept, pairing);
+    if are_whole(values, settled, kept) {
+        return is_struck;
     }
-    true
+    keep_others(values, settled, rest, kept, pairing) || is_struck
 }
 
 /// Decides what is kept of a house in which these values are those of cells that are alone. Says whether anything may be

@@ -2,28 +2,12 @@
 
 ghost use Rattle.std.specs.Prelude.{◌≡◌, ◌≤◌, [], false, length, true};
 ghost use Rattle.grid_core.specs.Candidates.{max_values};
-ghost use Rattle.solo_core.specs.PeeledHouses.{IsPaired, IsShortRest, meets, rest_of, AreCellsOf};
+ghost use Rattle.solo_core.specs.PeeledHouses.{IsPaired, IsShortRest, AreCellsOf};
 
 use crate::visits::graph::{CellValueGraph, MANY};
 use crate::visits::quick::pair_quickly;
 use arrayvec::ArrayVec;
 use grid_core::{Paired, Pairing};
-
-/// Lists the cells that have none of these values.
-#[tactic(auto, using(crate::proofs::LawSets::mates_laws))]
-pub(crate) fn list_rest(sets: &[u32], lone: u32, rest: &mut ArrayVec<u8, MANY>)
-    requires few { length sets.now ≤ max_values }
-    requires none { rest.old.items ≡ [] }
-    ensures rest { rest.new.items ≡ rest_of (length sets.now) (meets sets.now lone) }
-    ensures few { length rest.new.items ≤ length sets.now }
-{
-    for cell in 0..sets.len() {
-        if sets[cell] & lone != 0 {
-            continue;
-        }
-        rest.push(cell as u8);
-    }
-}
 
 /// Pairs these cells with values. Says whether it can: else some of them have fewer values than they are.
 pub(crate) fn pair_rest(

@@ -11,23 +11,9 @@ use crate::visits::bits::others_below;
 /// The values that some cell has, those that some cell has alone, and those that several cells have.
 #[derive(Clone, Copy)]
 pub(crate) struct Counts {
-    some: u32,
-    single: u32,
-    shared: u32,
-}
-
-/// Copies the sets, and counts their values.
-pub(crate) fn copy_counted(sets: &[u32], copy: &mut [u32]) -> Counts
-    requires as_many { length copy.old ≡ length sets.now }
-    ensures copied { copy.new ≡ sets.now }
-    ensures counts { AreAllCounts sets.now result.some result.single result.shared }
-{
-    let mut counts = NO_COUNTS;
-    for k in 0..sets.len() {
-        copy[k] = sets[k];
-        counts = counts.with(sets[k]);
-    }
-    counts
+    pub(crate) some: u32,
+    pub(crate) single: u32,
+    pub(crate) shared: u32,
 }
 
 /// Strikes the value of a cell that has one alone from the other cells, and the other values of a cell that is the only
@@ -55,17 +41,23 @@ pub(crate) fn peel(values: u8, counted: Counts, settled: u32, rest: &[u8], sets:
     counts.lone(values)
 }
 
-/// The counts of no cells.
-const NO_COUNTS: Counts = Counts {
-    some: 0,
-    single: 0,
-    shared: 0,
-};
-
 impl Counts {
+    /// The counts of settled cells, which have these values.
+    pub(crate) fn of_settled(settled: u32) -> Counts
+        ensures some { result.some ≡ settled }
+        ensures single { result.single ≡ settled }
+        ensures shared { result.shared ≡ 0 }
+    {
+        Counts {
+            some: settled,
+            single: settled,
+            shared: 0,
+        }
+    }
+
     /// The counts with one more cell.
     #[tactic(auto, using(crate::proofs::LawSets::counts_laws))]
-    fn with(self, set: u32) -> Counts
+    pub(crate) fn with(self, set: u32) -> Counts
         ensures some { (v : ℕ) → is_set result.some v ≡ (is_set self.some v || is_set set v) }
         ensures single { AddsSingle self.single set result.single }
         ensures shared { AddsShared self.shared self.some set result.shared }
@@ -107,11 +99,7 @@ fn narrow_all(values: u8, counts: Counts, settled: u32, rest: &[u8], sets: &mut 
     ensures counts { AreAllCounts sets.new result.some result.single result.shared }
     ensures others { KeepsOthers rest.now sets.old sets.new }
 {
-    let mut narrowed = Counts {
-        some: settled,
-        single: settled,
-        shared: 0,
-    };
+    let mut narrowed = Counts::of_settled(settled);
     for i in 0..rest.len() {
         let cell = usize::from(rest[i]);
         let set = narrow(values, counts, sets[cell]);

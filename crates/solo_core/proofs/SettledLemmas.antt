@@ -1,0 +1,176 @@
+-- Cells that are settled, and what is left of the others.
+use Rattle.solo_core.proofs.Common.{AreLone, AreSettledBut, IsAlone, IsOutside, IsPassedCell, IsPeeled, IsRest, IsSingleSet, KeepsOthers, List, [], and_le_r, ap, arith, bit_and, both-bits, cases_Bool, cases_eq, cases_lt, common_steps, eq-eqb, eqb-true, false, false_from_ne_true, get_or_append_left, get_or_push, has_bit, has_in, inl, inr, length, length-append, meets, nat_tests, or_cases, refl, slice_index, sym, true, true_from_ne_false, true≢false, zero-bits, ℕ, ◌&&◌, ◌++◌, ◌+◌, ◌<◌, ◌^◌, ◌||◌, ◌∙◌, ◌∷◌, ◌≡◌, ◌≤◌}
+use Rattle.solo_core.proofs.BitLemmas.{none_in_zero, some_set}
+use Rattle.solo_core.proofs.MateLemmas.{in_or_out}
+use Rattle.solo_core.proofs.NarrowLemmas.{IsNarrowed}
+use Rattle.solo_core.proofs.PeelLemmas.{counts-more, counts-same, meets-here}
+
+-- ---- cell by cell
+pub settled-none : {values settled : ℕ} {sets : List ℕ} → ((v : ℕ) → has_bit settled v ≡ true → ⊥) → AreSettledBut values sets [] 0 settled
+settled-none none = record {
+  few = omega arith;
+  within = λ t lt. absurd (omega arith);
+  different = λ j k lj lk e. absurd (omega arith);
+  some = λ k lt out. absurd (omega arith);
+  counts = record {
+    has = λ j v on has. absurd (omega (arith, on.0));
+    singles = λ v on. absurd (none v on);
+    shares = λ j k v on_j on_k ne has_j has_k. absurd (omega (arith, on_j.0));
+  };
+  below = λ v on. absurd (none v on);
+}
+
+module _ {values n settled : ℕ} {sets rest : List ℕ} (s : AreSettledBut values sets rest n settled) where
+  -- a cell that has one value alone, which is not settled yet
+  pub settled-more : {more : ℕ} (value : ℕ) → value < values → has_in sets n value ≡ true → has_bit settled value ≡ false → IsSingleSet (slice_index sets n) value
+      → ((v : ℕ) → has_bit more v ≡ (has_bit settled v || has_in sets n v)) → AreSettledBut values sets rest (n + 1) more
+  settled-more {more} value low has free single is = record {
+    few = omega (arith, s.few);
+    within = λ t lt. omega (arith, s.within t lt);
+    different = s.different;
+    some = λ k lt out. elim (cases_eq k n) [ inl e ↦ (value, rw e has) | inr ne ↦ s.some k (omega arith) out ];
+    counts = counts-more {more = λ (k : ℕ). (k < n + 1) × IsPassedCell rest 0 k} n s.counts
+        (λ j on. elim (cases_eq j n) [ inl e ↦ inl e | inr ne ↦ inr (omega (arith, on.0), on.1) ])
+        (λ j on. (omega (arith, on.0), on.1))
+        (omega arith, λ t le lt e. absurd (omega (arith, s.within t lt)))
+        is
+        (λ v on. elim (or_cases (has_bit settled v) (has_in sets n v) (sym (is v) ∙ on)) [
+          | inl was ↦ inl was
+          | inr here ↦ inr (rw (one v here) single)
+        ])
+        (λ v. elim (cases_Bool (has_in sets n v)) [
+          | inl on ↦ let at = one v on in let z = zero-bits v in let f = ap (has_bit settled) at ∙ free in grind arith
+          | inr off ↦ let z = zero-bits v in grind arith
+        ]);
+    below = λ v on. elim (or_cases (has_bit settled v) (has_in sets n v) (sym (is v) ∙ on)) [
+      | inl was ↦ s.below v was
+      | inr here ↦ rw (one v here) low
+    ];
+  }
+    where
+      one : (v : ℕ) → has_in sets n v ≡ true → v ≡ value
+      one v on = eqb-true v value (sym (single v) ∙ on)
+
+  -- a cell that is left
+  longer : length (rest ++ n ∷ []) ≡ length rest + 1
+  longer = length-append rest (n ∷ [])
+
+  first : (t : ℕ) → t < length rest → slice_index (rest ++ n ∷ []) t ≡ slice_index rest t
+  first t lt = get_or_append_left rest (n ∷ []) 0 t lt
+
+  last : (t : ℕ) → length rest ≡ t → slice_index (rest ++ n ∷ []) t ≡ n
+  last t e = get_or_push rest n 0 t e
+
+  under : (t : ℕ) → t < length (rest ++ n ∷ []) → slice_index (rest ++ n ∷ []) t < n + 1
+  under t lt = elim (cases_lt t (length rest)) [
+    | inl low ↦ omega (arith, first t low, s.within t low)
+    | inr high ↦ omega (arith, last t (omega (arith, longer)))
+  ]
+
+  passed : (j : ℕ) → j < n → IsPassedCell rest 0 j → IsPassedCell (rest ++ n ∷ []) 0 j
+  passed j lj out t le lt e = elim (cases_lt t (length rest)) [
+    | inl low ↦ out t le low (sym (first t low) ∙ e)
+    | inr high ↦ absurd (omega (arith, last t (omega (arith, longer)), e))
+  ]
+
+  pub settled-but : AreSettledBut values sets (rest ++ n ∷ []) (n + 1) settled
+  settled-but = record {
+    few = omega (arith, longer, s.few);
+    within = under;
+    different = λ j k lj lk e. elim (cases_lt j (length rest)) [
+      | inl low_j ↦ elim (cases_lt k (length rest)) [
+        | inl low_k ↦ s.different j k low_j low_k (sym (first j low_j) ∙ e ∙ first k low_k)
+        | inr high ↦ absurd (omega (arith, first j low_j, s.within j low_j, last k (omega (arith, longer)), e))
+      ]
+      | inr high_j ↦ elim (cases_lt k (length rest)) [
+        | inl low_k ↦ absurd (omega (arith, first k low_k, s.within k low_k, last j (omega (arith, longer)), e))
+        | inr high ↦ omega (arith, longer)
+      ]
+    ];
+    some = λ k lt out. s.some k (omega (arith, λ (e : k ≡ n). out (length rest) (omega (arith, longer)) (last (length rest) refl ∙ sym e)))
+        (λ t low e. out t (omega (arith, longer)) (first t low ∙ e));
+    counts = counts-same s.counts (λ j on. refl)
+        (λ j on. (
+          omega (arith, on.0, λ (e : j ≡ n). on.1 (length rest) (omega arith) (omega (arith, longer)) (last (length rest) refl ∙ sym e)),
+          λ t le low e. on.1 t le (omega (arith, longer)) (first t low ∙ e),
+        ))
+        (λ j on. (omega (arith, on.0), passed j on.0 on.1));
+    below = s.below;
+  }
+
+-- ---- the values of the settled cells are struck from the others
+abbrev pub drops_settled : ℕ → ℕ → ℕ → Type 0
+drops_settled settled set v = has_bit settled v ≡ true
+
+-- no cell of the rest before the i-th has such a value
+abbrev pub IsFreeOf : ℕ → List ℕ → List ℕ → ℕ → Type 0
+IsFreeOf settled sets rest i = (t v : ℕ) → t < i → t < length rest → has_in sets (slice_index rest t) v ≡ true → has_bit settled v ≡ false
+
+module _ {values settled some single shared : ℕ} {old new rest : List ℕ} (s : AreSettledBut values old rest (length old) settled)
+    (n : IsNarrowed (drops_settled settled) values old new rest (length rest) some single shared) (free : IsFreeOf settled new rest (length rest)) where
+  -- the value of a cell outside
+  own : (k : ℕ) → k < length old → IsOutside rest k → (v : ℕ) × (has_bit settled v ≡ true) × (has_in old k v ≡ true) × IsSingleSet (slice_index old k) v
+  own k lk out =
+      let w = s.some k lk out in
+      let on = s.counts.has k w.0 (lk, λ t le lt e. out t lt e) w.1 in
+      let j = s.counts.singles w.0 on in (
+        w.0,
+        on,
+        w.1,
+        elim (cases_eq j.0 k) [
+          | inl e ↦ rw e at j.2
+          | inr ne ↦ absurd (none_in_zero w.0 (s.counts.shares j.0 k w.0 j.1 (lk, λ t le lt e. out t lt e) ne (j.2 w.0 ∙ eq-eqb w.0 w.0 refl) w.1))
+        ],
+      )
+
+  kept : (k v : ℕ) → IsOutside rest k → has_in new k v ≡ has_in old k v
+  kept k v out = ap (λ bits. has_bit bits v) (n.others k out)
+
+  pub settled-peeled_off : IsPeeled values old new
+  settled-peeled_off = record {
+    as_many = n.as_many;
+    inside = λ k v lk on. n.inside k v on;
+    keeps = λ mates p k lk. true_from_ne_false (has_in new k (slice_index mates k)) (λ off.
+        let v = slice_index mates k in
+        let j = s.counts.singles v (n.dropped k v (p.in_range k lk) (p.joined k lk) off) in
+        let is = eqb-true (slice_index mates j.0) v (sym (j.2 (slice_index mates j.0)) ∙ p.joined j.0 j.1.0) in
+        let same = p.own j.0 k j.1.0 lk is in
+        true≢false (sym (p.joined k lk) ∙ sym (kept k v (λ t lt e. j.1.1 t (omega arith) lt (e ∙ sym same))) ∙ off));
+  }
+
+  pub settled-rest : IsRest values new rest
+  settled-rest = record {
+    few = omega (arith, n.as_many, s.few);
+    within = λ t lt. omega (arith, n.as_many, s.within t lt);
+    different = s.different;
+    alone = λ k lk out.
+        let o = own k (omega (arith, n.as_many)) out in
+        record {
+          value = o.0;
+          value_in = s.below o.0 o.1;
+          has = kept k o.0 out ∙ o.2;
+          only = λ v on. eqb-true v o.0 (sym (o.3 v) ∙ sym (kept k v out) ∙ on);
+          apart = λ m lm ne. false_from_ne_true (has_in new m o.0) (λ on. elim (in_or_out rest m) [
+            | inl w ↦ true≢false (sym o.1 ∙ free w.0 o.0 w.1 w.1 (rw w.2 on))
+            | inr away ↦ none_in_zero o.0 (s.counts.shares m k o.0 (omega (arith, n.as_many), λ t le lt e. away t lt e)
+                (omega (arith, n.as_many), λ t le lt e. out t lt e) ne (sym (kept m o.0 away) ∙ on) o.2)
+          ]);
+        };
+  }
+
+  pub settled-lone : settled < 2 ^ 32 → AreLone values new settled
+  settled-lone low = record {
+    alone = λ k lk on.
+        let at = some_set (bit_and (slice_index new k) settled) (omega (arith, and_le_r (slice_index new k) settled)) on in
+        let both = both-bits (slice_index new k) settled at.0 in
+        elim (in_or_out rest k) [
+          | inl w ↦ let has : has_in new k at.0 ≡ true = grind arith in
+              let is : has_bit settled at.0 ≡ true = grind arith in
+              absurd (true≢false (sym is ∙ free w.0 at.0 w.1 w.1 (rw w.2 has)))
+          | inr out ↦ settled-rest.alone k lk out
+        ];
+    held = λ v on.
+        let j = s.counts.singles v on in
+        let has = kept j.0 v (λ t lt e. j.1.1 t (omega arith) lt e) ∙ j.2 v ∙ eq-eqb v v refl in
+        (j.0, omega (arith, n.as_many, j.1.0), meets-here new settled j.0 v has on, has);
+  }
