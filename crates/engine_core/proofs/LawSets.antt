@@ -3,7 +3,7 @@ use Rattle.engine_core.proofs.Common.{bound_enough, by_houses-lawful, ends-close
 use Rattle.engine_core.proofs.ClosingLemmas.{closure_inside, closure_closed, closure_largest}
 use Rattle.engine_core.proofs.MarkLemmas.{joined-first, joined-more, lowest_left, mark-first, mark-more, marked-first, marked-more, marks-at, next-marked, none_left, waiting-dequeue, waiting-enqueue}
 use Rattle.engine_core.proofs.HouseLemmas.{closed-in, kept-first, kept-inside, kept-more, last-at, listed-close, listed-more, scopes-fit, striking-first, striking-more, table-houses, total-closed}
-use Rattle.engine_core.proofs.JudgeLemmas.{grid-fits, grid-long, pick-ends, pick-is, pick-more, settled-dead}
+use Rattle.engine_core.proofs.JudgeLemmas.{grid-fits, grid-long, pick-ends, pick-is, pick-more, pick-passes, settled-dead}
 use Rattle.engine_core.proofs.SearchLemmas.{found_iff, outcome-counts, outcome-true, spent-counts, trials-counted, tried-first}
 use Rattle.engine_core.proofs.WalkLemmas.{walk-once, walk-unfold}
 use Rattle.engine_core.proofs.PlaneSteps.{step-onward, step-walks}
@@ -43,7 +43,7 @@ pub ruleset visit_laws = (kept-first, kept-inside, kept-more, striking-first, st
 
 pub ruleset trail_laws = (trail-none, total-bound, put_back-none)
 
-pub ruleset cell_laws = (grid-fits, grid-long, pick-more, pick-ends)
+pub ruleset cell_laws = (grid-fits, grid-long, pick-more, pick-passes, pick-ends)
 
 pub ruleset plane_position_laws = (step-onward, step-walks)
 

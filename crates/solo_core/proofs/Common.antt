@@ -37,7 +37,7 @@ pub use Rattle.solo_core.specs.HouseLaws.{some_numbers}
 pub use Rattle.solo_core.specs.SolutionLaws.{different_from_no_repeat, no_repeat_from_different, none_missed, own_from_no_repeat}
 pub use Rattle.solo_core.specs.PeeledHouses.{AreAllCounts, AreAlone, AreLone, AreSettledCells, AreValueCounts, AreWhole, IsAlone, IsDropped, IsOutside, IsPaired}
 pub use Rattle.solo_core.specs.PeeledHouses.{IsPassedCell, IsPeeled, IsRest, IsShortRest, IsSingleSet, KeepsFillings, KeepsOthers, KeepsReaching, LeadByMates, PairsCells}
-pub use Rattle.solo_core.specs.PeeledHouses.{AreSettledBut, meets}
+pub use Rattle.solo_core.specs.PeeledHouses.{AreCellsOf, AreMetOutside, AreSettledBut, meets}
 pub use Rattle.solo_core.specs.QuickPairings.{PairsOneMore, IsBegun}
 pub use Rattle.solo_core.specs.RuleLaws.{crossings_lawful, crossings_sound, fillings_sound, houses_lawful, singles_lawful, singles_sound}
 pub use Rattle.solo_core.specs.RuleSets.{crossing_of, crossings_of, deciding, filled_houses, visited_house, house_by, houses_rules, solo_rules_of, setting_of}

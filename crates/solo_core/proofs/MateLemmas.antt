@@ -1,5 +1,5 @@
 -- Pairings of the cells with values, and how they go on.
-use Rattle.solo_core.proofs.Common.{AreDifferent, Bool, PairsOneMore, IsBegun, IsOutside, IsPaired, IsRest, IsShortRest, IsShownBy, KeepsFillings, List, PairsCells, [], ap, append-nil, arith, cases_Bool, cases_eq, cases_lt, common_steps, cond, different-filter, eq-eqb, eqb, eqb-true, false, false_from_ne_true, filter_of_map_range_with_len_more, get_or, get_or-map, get_or-map-range_with_len, get_or-range_with_len, get_or_past, has_bit, has_in, has_place, has_place-at, has_place-here, has_value, inl, inr, is_struck, length, length-map, length-map-range_with_len, length-range_with_len, map, map-id, nat_tests, no_choice, no_repeat, no_repeat_from_different, not, not-true, not_from_false, own_from_no_repeat, place-filter, place-kept, range_with_len, refl, set_of_bits, shown_from_test, slice_index, suc, sym, test_from_shown, true, true_from_ne_false, true≢false, zero, ℕ, ◌++◌, ◌+◌, ◌<◌, ◌∙◌, ◌∷◌, ◌≡◌, ◌⊎◌, length-set, get_or-set_at, get_or-set_other, slice_set, get_or_append_left, get_or_push}
+use Rattle.solo_core.proofs.Common.{Bool, PairsOneMore, IsBegun, IsOutside, IsPaired, IsRest, IsShortRest, IsShownBy, KeepsFillings, List, PairsCells, [], ap, arith, cases_Bool, cases_eq, cases_lt, common_steps, cond, eq-eqb, eqb, eqb-true, false, false_from_ne_true, get_or, get_or-map, get_or-map-range_with_len, get_or_past, has_bit, has_in, has_place, has_place-at, has_place-here, has_value, inl, inr, is_struck, length, length-map, length-map-range_with_len, map, nat_tests, no_choice, no_repeat, no_repeat_from_different, own_from_no_repeat, range_with_len, refl, set_of_bits, shown_from_test, slice_index, suc, sym, test_from_shown, true, true_from_ne_false, true≢false, zero, ℕ, ◌++◌, ◌+◌, ◌<◌, ◌∙◌, ◌∷◌, ◌≡◌, ◌⊎◌, length-set, get_or-set_at, get_or-set_other, slice_set, get_or_append_left, get_or_push}
 
 -- A pairing of the cells with values is a filling without repeat, and a short set rules out every one. The values of the cells that
 -- are alone and a pairing of the rest make a pairing of the house.

@@ -1,5 +1,5 @@
 -- Houses in which cells are alone, and houses that are whole.
-use Rattle.solo_core.proofs.Common.{AreAllCounts, AreAlone, AreLone, AreSettledCells, AreValueCounts, AreWhole, Bool, IsAlone, IsDropped, IsOutside, IsPeeled, IsRest, IsSingleSet, KeepsFillings, KeepsOthers, List, PairsCells, and_le_r, ap, arith, bit_and, both-bits, cases_Bool, cases_eq, common_steps, cond, eq-eqb, eqb, eqb-true, false, false_from_ne_true, get_or-map-range_with_len, has_bit, has_in, inl, inr, is_struck, length, length-map-range_with_len, ltb, map, meets, nat_tests, ne_eqb, no_repeat, none_missed, not, range_with_len, refl, set_of_bits, shown_from_test, slice_index, suc, sym, true, true_from_ne_false, true≢false, zero, zero-bits, ℕ, ◌&&◌, ◌<◌, ◌^◌, ◌||◌, ◌∙◌, ◌≡◌, ◌≤◌, ◌⊎◌}
+use Rattle.solo_core.proofs.Common.{AreAllCounts, AreAlone, AreLone, AreMetOutside, AreSettledCells, AreValueCounts, AreWhole, Bool, IsAlone, IsDropped, IsPeeled, IsRest, IsSingleSet, KeepsFillings, KeepsOthers, List, PairsCells, and_le_r, ap, arith, bit_and, bit_or, both-bits, cases_Bool, cases_eq, common_steps, cond, either-bits, eq-eqb, eqb, eqb-true, false, false_from_ne_true, get_or-map-range_with_len, has_bit, has_in, inl, inr, is_struck, length, length-map-range_with_len, ltb, map, meets, nat_tests, no_repeat, none_missed, not, or_cases, or_lt, or_right, range_with_len, refl, set_of_bits, shown_from_test, slice_index, suc, sym, true, true_from_ne_false, true≢false, zero, zero-bits, ℕ, ◌&&◌, ◌<◌, ◌^◌, ◌||◌, ◌∙◌, ◌≡◌, ◌≤◌, ◌⊎◌}
 use Rattle.solo_core.proofs.MateLemmas.{decided_by_all, last, last-below, last-passes, pairing_of_filling, shown_by_pairing}
 use Rattle.solo_core.proofs.BitLemmas.{none_in_zero, some_set}
 
@@ -138,6 +138,55 @@ module _ {n : ℕ} {old : List ℕ} (square : length old ≡ n) {some single sha
         let has = j.2 v ∙ eq-eqb v v refl in
         (j.0, j.1, meets-here old lone j.0 v has on, has);
   }
+
+pub lone-joined : {n a b : ℕ} {sets : List ℕ} → AreLone n sets a → AreLone n sets b → bit_or a b < 2 ^ 32 → AreLone n sets (bit_or a b)
+lone-joined {n} {a} {b} {sets} p q low = record {
+  alone = λ k lk on.
+      let at = some_set (bit_and (slice_index sets k) (bit_or a b)) (omega (arith, and_le_r (slice_index sets k) (bit_or a b))) on in
+      let both = both-bits (slice_index sets k) (bit_or a b) at.0 in
+      let is = either-bits a b at.0 in
+      elim (or_cases (has_bit a at.0) (has_bit b at.0) (grind arith)) [
+        | inl first ↦ p.alone k lk (meets-here sets a k at.0 (grind arith) first)
+        | inr second ↦ q.alone k lk (meets-here sets b k at.0 (grind arith) second)
+      ];
+  held = λ v on. elim (or_cases (has_bit a v) (has_bit b v) (sym (either-bits a b v) ∙ on)) [
+    | inl first ↦ let w = p.held v first in (w.0, w.1, meets-here sets (bit_or a b) w.0 v w.3 on, w.3)
+    | inr second ↦ let w = q.held v second in (w.0, w.1, meets-here sets (bit_or a b) w.0 v w.3 on, w.3)
+  ];
+}
+
+module _ {n settled : ℕ} {sets rest : List ℕ} (r : IsRest n sets rest) (s : AreSettledCells sets rest settled) where
+  pub rest-lone : settled < 2 ^ 32 → AreLone n sets settled
+  rest-lone low = record {
+    alone = λ k lk on.
+        let at = some_set (bit_and (slice_index sets k) settled) (omega (arith, and_le_r (slice_index sets k) settled)) on in
+        let both = both-bits (slice_index sets k) settled at.0 in
+        let j = s.singles at.0 (grind arith) in
+        let a = r.alone j.0 j.1.0 (λ t lt e. j.1.1 t (omega arith) lt e) in
+        let is = a.only at.0 (j.2 at.0 ∙ eq-eqb at.0 at.0 refl) in
+        elim (cases_eq k j.0) [
+          | inl e ↦ rw e a
+          | inr ne ↦ absurd (true≢false (sym (let has : has_in sets k at.0 ≡ true = grind arith in has) ∙ ap (has_in sets k) is ∙ a.apart k lk ne))
+        ];
+    held = λ v on.
+        let j = s.singles v on in
+        let has = j.2 v ∙ eq-eqb v v refl in
+        (j.0, j.1.0, meets-here sets settled j.0 v has on, has);
+  }
+
+  -- each cell outside has one of these values, and of more
+  pub rest-met : (more : ℕ) → ((v : ℕ) → has_bit settled v ≡ true → has_bit more v ≡ true) → AreMetOutside sets rest more
+  rest-met more inside k lk out =
+      let a = r.alone k lk out in
+      meets-here sets more k a.value a.has (inside a.value (s.has k a.value (lk, λ t le lt e. out t lt e) a.has))
+
+  -- with them other values are lone too, and each cell outside is met
+  pub with-settled : {lone : ℕ} → AreLone n sets lone → lone < 2 ^ 32 → settled < 2 ^ 32
+      → AreLone n sets (bit_or lone settled) × AreMetOutside sets rest (bit_or lone settled)
+  with-settled {lone} l low small = (
+    lone-joined l (rest-lone small) (or_lt 32 lone settled low small),
+    rest-met (bit_or lone settled) (λ v on. either-bits lone settled v ∙ or_right _ _ on),
+  )
 
 -- what stays of the rest is the rest
 pub rest-peeled : {n : ℕ} {old new rest : List ℕ} → IsPeeled n old new → KeepsOthers rest old new → IsRest n old rest → IsRest n new rest

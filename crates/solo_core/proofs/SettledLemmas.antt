@@ -1,9 +1,9 @@
 -- Cells that are settled, and what is left of the others.
-use Rattle.solo_core.proofs.Common.{AreLone, AreSettledBut, IsAlone, IsOutside, IsPassedCell, IsPeeled, IsRest, IsSingleSet, KeepsOthers, List, [], and_le_r, ap, arith, bit_and, both-bits, cases_Bool, cases_eq, cases_lt, common_steps, eq-eqb, eqb-true, false, false_from_ne_true, get_or_append_left, get_or_push, has_bit, has_in, inl, inr, length, length-append, meets, nat_tests, or_cases, refl, slice_index, sym, true, true_from_ne_false, true≢false, zero-bits, ℕ, ◌&&◌, ◌++◌, ◌+◌, ◌<◌, ◌^◌, ◌||◌, ◌∙◌, ◌∷◌, ◌≡◌, ◌≤◌}
-use Rattle.solo_core.proofs.BitLemmas.{none_in_zero, some_set}
+use Rattle.solo_core.proofs.Common.{AreSettledBut, IsOutside, IsPassedCell, IsPeeled, IsRest, IsSingleSet, List, [], ap, arith, cases_Bool, cases_eq, cases_lt, eq-eqb, eqb-true, false, false_from_ne_true, get_or_append_left, get_or_push, has_bit, has_in, inl, inr, length, length-append, or_cases, refl, slice_index, sym, true, true_from_ne_false, true≢false, zero-bits, ℕ, ◌++◌, ◌+◌, ◌<◌, ◌||◌, ◌∙◌, ◌∷◌, ◌≡◌}
+use Rattle.solo_core.proofs.BitLemmas.{none_in_zero}
 use Rattle.solo_core.proofs.MateLemmas.{in_or_out}
 use Rattle.solo_core.proofs.NarrowLemmas.{IsNarrowed}
-use Rattle.solo_core.proofs.PeelLemmas.{counts-more, counts-same, meets-here}
+use Rattle.solo_core.proofs.PeelLemmas.{counts-more, counts-same}
 
 -- ---- cell by cell
 pub settled-none : {values settled : ℕ} {sets : List ℕ} → ((v : ℕ) → has_bit settled v ≡ true → ⊥) → AreSettledBut values sets [] 0 settled
@@ -156,21 +156,4 @@ module _ {values settled some single shared : ℕ} {old new rest : List ℕ} (s 
                 (omega (arith, n.as_many), λ t le lt e. out t lt e) ne (sym (kept m o.0 away) ∙ on) o.2)
           ]);
         };
-  }
-
-  pub settled-lone : settled < 2 ^ 32 → AreLone values new settled
-  settled-lone low = record {
-    alone = λ k lk on.
-        let at = some_set (bit_and (slice_index new k) settled) (omega (arith, and_le_r (slice_index new k) settled)) on in
-        let both = both-bits (slice_index new k) settled at.0 in
-        elim (in_or_out rest k) [
-          | inl w ↦ let has : has_in new k at.0 ≡ true = grind arith in
-              let is : has_bit settled at.0 ≡ true = grind arith in
-              absurd (true≢false (sym is ∙ free w.0 at.0 w.1 w.1 (rw w.2 has)))
-          | inr out ↦ settled-rest.alone k lk out
-        ];
-    held = λ v on.
-        let j = s.counts.singles v on in
-        let has = kept j.0 v (λ t lt e. j.1.1 t (omega arith) lt e) ∙ j.2 v ∙ eq-eqb v v refl in
-        (j.0, omega (arith, n.as_many, j.1.0), meets-here new settled j.0 v has on, has);
   }

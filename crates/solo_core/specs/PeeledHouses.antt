@@ -62,6 +62,10 @@ pub record AreLone (n : ℕ) (sets : List ℕ) (lone : ℕ) : Type 0 where
   pub held : (v : ℕ) → has_bit lone v ≡ true
       → (k : ℕ) × (k < length sets) × (meets sets lone k ≡ true) × (has_in sets k v ≡ true)
 
+-- each cell outside the rest has one of these values
+abbrev pub AreMetOutside : List ℕ → List ℕ → ℕ → Type 0
+AreMetOutside sets rest values = (k : ℕ) → k < length sets → IsOutside rest k → meets sets values k ≡ true
+
 -- each cell that meets none of these values has all others
 abbrev pub AreWhole : ℕ → List ℕ → ℕ → Type 0
 AreWhole n sets lone = (k v : ℕ) → k < length sets → v < n → meets sets lone k ≡ false

@@ -29,6 +29,10 @@ pub(crate) fn join_marks(waits: &mut [u64], marks: &[u64])
     requires { length marks.now ≤ length waits.old }
     ensures { AreMarkedToo marks.now waits.old waits.new }
 {
+    if marks.len() == 1 {
+        waits[0] |= marks[0];
+        return;
+    }
     for word in 0..marks.len() {
         waits[word] |= marks[word];
     }

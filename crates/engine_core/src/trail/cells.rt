@@ -42,9 +42,12 @@ pub(crate) fn best_cell(board: &Board, from: usize, cells: usize) -> Option<usiz
 {
     let mut best = None;
     for cell in from..cells {
-        best = better_cell(board, best, cell);
-        if board.count(cell) == 2 {
-            return best; // no later cell is better
+        let count = board.count(cell);
+        if count >= 2 {
+            best = better_cell(board, best, cell);
+            if count == 2 {
+                return best; // no later cell is better
+            }
         }
     }
     best

@@ -49,7 +49,7 @@ fn wake_since<S: RuleSet>(
     requires board_of { IsBoardOf (S.system (S.puzzle_of rules.now.set)) trailed.now.board }
     requires from_in { from ≤ trailed.now.len }
     requires room { words_of (S.system (S.puzzle_of rules.now.set)).houses ≤ length waits.old }
-    requires first_room { words_of (S.system (S.puzzle_of rules.now.set)).houses ≤ length first.old }
+    requires first { words_of (S.system (S.puzzle_of rules.now.set)).houses ≤ length first.old }
     ensures { AreWokenSince (S.system (S.puzzle_of rules.now.set)) trailed.now from
         waits.old waits.new }
 {

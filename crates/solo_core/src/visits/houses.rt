@@ -39,12 +39,12 @@ pub(crate) fn keep_houses(values: u8, sets: &[u32], kept: &mut [u32], pairing: &
     let (counts, is_struck) = strike_settled(values, settled, rest, kept);
     if counts.are_open() {
         let lone = peel(values, counts, settled, rest, kept);
-        if !are_whole(values, lone, kept) {
+        if !are_whole(values, lone, rest, kept) {
             keep_others(values, lone, rest, kept, pairing);
         }
         return true;
     }
-    if are_whole(values, settled, kept) {
+    if are_whole(values, settled, rest, kept) {
         return is_struck;
     }
     keep_others(values, settled, rest, kept, pairing) || is_struck

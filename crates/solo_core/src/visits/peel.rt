@@ -4,7 +4,7 @@
 ghost use Rattle.std.specs.Prelude.{◌≡◌, ℕ, ◌≤◌, ◌&&◌, ◌||◌, true, length};
 ghost use Rattle.grid_core.specs.Candidates.{max_values};
 ghost use Rattle.engine_core.specs.Sets.{has_bit as is_set};
-ghost use Rattle.solo_core.specs.PeeledHouses.{IsPeeled, AreLone, AreWhole, AreAllCounts, AreSettledCells, IsRest, KeepsOthers, AddsSingle, AddsShared, AreDropped, is_lone};
+ghost use Rattle.solo_core.specs.PeeledHouses.{AreCellsOf, AreLone, AreMetOutside, AreWhole, IsPeeled, AreAllCounts, AreSettledCells, IsRest, KeepsOthers, AddsSingle, AddsShared, AreDropped, is_lone};
 
 use crate::visits::bits::others_below;
 
@@ -27,6 +27,7 @@ pub(crate) fn peel(values: u8, counted: Counts, settled: u32, rest: &[u8], sets:
     requires rest { IsRest values sets.old rest.now }
     ensures peeled { IsPeeled values sets.old sets.new }
     ensures lone { AreLone values sets.new result }
+    ensures outside { AreMetOutside sets.new rest.now result }
     ensures rest { IsRest values sets.new rest.now }
 {
     let mut counts = counted;
@@ -34,11 +35,11 @@ pub(crate) fn peel(values: u8, counted: Counts, settled: u32, rest: &[u8], sets:
         let narrowed = narrow_all(values, counts, settled, rest, sets);
         let is_same = narrowed.single == counts.single && narrowed.shared == counts.shared;
         if is_same || !narrowed.are_open() {
-            return narrowed.lone(values);
+            return narrowed.lone(values) | settled;
         }
         counts = narrowed;
     }
-    counts.lone(values)
+    counts.lone(values) | settled
 }
 
 impl Counts {
@@ -123,17 +124,20 @@ fn narrow(values: u8, counts: Counts, set: u32) -> u32
     if open != 0 { open } else { set }
 }
 
-/// Whether each cell that has none of these values has all others.
-pub(crate) fn are_whole(values: u8, lone: u32, sets: &[u32]) -> bool
-    requires { values ≤ max_values }
+/// Whether each cell that has none of these values has all others. Those outside the rest have one of them.
+pub(crate) fn are_whole(values: u8, lone: u32, rest: &[u8], sets: &[u32]) -> bool
+    requires few { values ≤ max_values }
+    requires rest_in { AreCellsOf sets.now rest.now }
+    requires outside { AreMetOutside sets.now rest.now lone }
     ensures { result ≡ true → AreWhole values sets.now lone }
 {
     let others = others_below(values, lone);
     if others == 0 {
         return true;
     }
-    for k in 0..sets.len() {
-        if sets[k] & lone == 0 && sets[k] & others != others {
+    for i in 0..rest.len() {
+        let set = sets[usize::from(rest[i])];
+        if set & lone == 0 && set & others != others {
             return false;
         }
     }

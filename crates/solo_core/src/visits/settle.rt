@@ -3,7 +3,7 @@
 
 ghost use Rattle.std.specs.Prelude.{◌≡◌, ◌≤◌, [], false, length, true};
 ghost use Rattle.grid_core.specs.Candidates.{max_values};
-ghost use Rattle.solo_core.specs.PeeledHouses.{AreAllCounts, AreLone, AreSettledBut, AreSettledCells, IsNewSingle, IsPeeled, IsRest};
+ghost use Rattle.solo_core.specs.PeeledHouses.{AreAllCounts, AreLone, AreMetOutside, AreSettledBut, AreSettledCells, IsNewSingle, IsPeeled, IsRest};
 
 use crate::visits::bits::{all_below, others_below};
 use crate::visits::graph::MANY;
@@ -32,9 +32,9 @@ pub(crate) fn settle(
         copy[cell] = set;
         if is_new_single(set, taken) {
             taken |= set;
-            continue;
+        } else {
+            rest.push(cell as u8);
         }
-        rest.push(cell as u8);
     }
     taken & all
 }
@@ -43,7 +43,7 @@ pub(crate) fn settle(
 fn is_new_single(set: u32, taken: u32) -> bool
     ensures { result ≡ true → IsNewSingle taken set }
 {
-    set & (set.wrapping_sub(1) | taken) == 0 && set != 0
+    set.count_ones() == 1 && set & taken == 0
 }
 
 /// Strikes the values of the settled cells from the rest, and counts the values of all. Says whether anything was struck.
@@ -60,6 +60,7 @@ pub(crate) fn strike_settled(
     ensures settled { AreSettledCells sets.new rest.now settled }
     ensures rest { IsRest values sets.new rest.now }
     ensures lone { AreLone values sets.new settled }
+    ensures outside { AreMetOutside sets.new rest.now settled }
     ensures same { result.1 ≡ false → sets.new ≡ sets.old }
 {
     let others = others_below(values, settled);

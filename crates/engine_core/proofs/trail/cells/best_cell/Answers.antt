@@ -8,4 +8,4 @@ better_cell-best-requires-clause-best_in c = pick-in c.loop-cell.best c.loop-cel
 pub returns-then-count-eq2 : goal.returns-then-count-eq2
 returns-then-count-eq2 c =
     let b = c.args.board.now in
-    pick-ends b.values (has b) c.loop-cell.invariant c.better_cell-best.ensures (sym c.count.ensures ∙ c.if-count-eq2.true) (omega arith)
+    pick-ends b.values (has b) c.loop-cell.invariant c.better_cell-best.ensures (sym c.count-count.ensures ∙ c.if-count-eq2.true) (omega arith)

@@ -1,7 +1,8 @@
-use Rattle.solo_core.proofs.Common.{ap, arith, bit_and, both-bits, cases_eq, eqb-true, false_from_ne_true, has_bit, inl, inr, length, nat_tests, slice_index, slice_set, sym, ℕ, ◌<◌, ◌∙◌, ◌≡◌}
+use Rattle.solo_core.proofs.Common.{AreSettledCells, ap, arith, bit_and, both-bits, cases_eq, has_bit, inl, inr, length, nat_tests, slice_index, slice_set, sym, ℕ, ◌<◌, ◌∙◌, ◌≡◌}
 use Rattle.std.proofs.lemmas.List.{set-get_or}
 use Rattle.solo_core.proofs.NarrowLemmas.{IsNarrowed, narrowed-before, narrowed-here, narrowed-more}
-use Rattle.solo_core.proofs.SettledLemmas.{IsFreeOf, drops_settled, settled-lone, settled-peeled_off, settled-rest}
+use Rattle.solo_core.proofs.PeelLemmas.{rest-lone, rest-met, settled-peeled}
+use Rattle.solo_core.proofs.SettledLemmas.{IsFreeOf, drops_settled, settled-peeled_off, settled-rest}
 use Rattle.solo_core.proofs.visits.settle.strike_settled.Goals as goal
 use Rattle.solo_core.proofs.visits.settle.strike_settled.Goals.{After-loop-i}
 
@@ -49,5 +50,12 @@ returns-clause-peeled c = settled-peeled_off c.requires.settled (narrowed c) (fr
 pub returns-clause-rest : goal.returns-clause-rest
 returns-clause-rest c = settled-rest c.requires.settled (narrowed c) (free c)
 
+-- the settled cells are as they were
+settled : (c : After-loop-i) → AreSettledCells c.loop-i.sets c.args.rest.now c.args.settled
+settled c = settled-peeled c.args.rest.now (settled-peeled_off c.requires.settled (narrowed c) (free c)) (narrowed c).others c.requires.settled.counts
+
 pub returns-clause-lone : goal.returns-clause-lone
-returns-clause-lone c = settled-lone c.requires.settled (narrowed c) (free c) (omega arith)
+returns-clause-lone c = rest-lone (settled-rest c.requires.settled (narrowed c) (free c)) (settled c) (omega arith)
+
+pub returns-clause-outside : goal.returns-clause-outside
+returns-clause-outside c = rest-met (settled-rest c.requires.settled (narrowed c) (free c)) (settled c) c.args.settled (λ v on. on)
