@@ -19,7 +19,7 @@ from crossings import by_fillings, lines_and_blocks
 from lib import words
 from lib.work import begin
 
-MOST, RUN_SECONDS, WALK_SECONDS = 31, 300, 20
+MOST, RUN_SECONDS, WALK_SECONDS = 31, 300, 5
 BUDGETS = 0, 1, 4, 40
 DEFINED = 6  # up to so many numbers a house strikes by the definition
 
@@ -62,22 +62,25 @@ class Walk:
         c, r, x = size
         self.n, self.budget, self.trials, self.grids = c * r, budget, 0, []
         self.houses = sum(lines_and_blocks(c, r, x), [])
+        self.beside = [[h for h, house in enumerate(self.houses) if p in house] for p in range(self.n * self.n)]
         self.visit = by_fillings if self.n <= DEFINED else by_one_filling
         self.until = time.monotonic() + WALK_SECONDS
         full = set(range(1, self.n + 1))
         self.ended = self.go_on([{g} if g else set(full) for g in givens])
 
     def close(self, board):
-        waiting = collections.deque(self.houses)
+        waiting = dict.fromkeys(range(len(self.houses)))
         while waiting:
             if time.monotonic() > self.until:
                 raise Late
-            house = waiting.popleft()
+            number = next(iter(waiting))
+            del waiting[number]
+            house = self.houses[number]
             for k, v in self.visit([board[p] for p in house], self.n):
                 board[house[k]].discard(v)
                 if not board[house[k]]:
                     return False
-                waiting.extend(h for h in self.houses if house[k] in h and h not in waiting)
+                waiting.update(dict.fromkeys(self.beside[house[k]]))
         return True
 
     def go_on(self, board):
