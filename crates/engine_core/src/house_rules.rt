@@ -101,6 +101,14 @@ impl<S: RuleSet> HouseRules<S> {
         self.filter(house, board, sets, kept, work) && apply(board, places, &kept[..places.len()])
     }
 
+    /// The places of the house.
+    pub(crate) fn places(&self, house: usize) -> &[u32]
+        requires { house < (S.system (S.puzzle_of self.now.set)).houses }
+        ensures { result.now ≡ (S.system (S.puzzle_of self.now.set)).scope house }
+    {
+        self.table.list.places(house)
+    }
+
     /// Marks the houses that have the place.
     pub(crate) fn wake(&self, place: usize, waits: &mut [u64])
         requires place_in { place < (S.system (S.puzzle_of self.now.set)).cells }

@@ -110,9 +110,9 @@ impl<S: RuleSet> TrailPosition<S> {
             return false;
         }
         let before = self.trailed.len();
-        let cells = rules.scope_len(house);
-        let (sets, kept) = (&self.sets[..cells], &self.kept[..cells]);
-        if self.trailed.strike(rules, house, sets, kept) {
+        let places = rules.places(house);
+        let (sets, kept) = (&self.sets[..places.len()], &self.kept[..places.len()]);
+        if self.trailed.strike(rules, house, places, sets, kept) {
             return true;
         }
         let waits: &mut [u64] = &mut self.waits;

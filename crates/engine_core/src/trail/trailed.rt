@@ -90,10 +90,12 @@ impl TrailedBoard {
         &mut self,
         rules: &R,
         house: usize,
+        places: &[u32],
         sets: &[u32],
         kept: &[u32],
     ) -> bool
         requires house_in { house < (R.system rules.now).houses }
+        requires places { places.now ≡ (R.system rules.now).scope house }
         requires board_of { IsBoardOf (R.system rules.now) self.old.board }
         requires alive { IsAlive (R.system rules.now) (has self.old.board) }
         requires sets { AreSetsOf (R.system rules.now) house (has self.old.board) sets.now }
@@ -110,7 +112,7 @@ impl TrailedBoard {
                 if left == 0 {
                     return true;
                 }
-                self.leave(rules, rules.scope(house, k), sets[k], left);
+                self.leave(rules, places[k] as usize, sets[k], left);
             }
         }
         false

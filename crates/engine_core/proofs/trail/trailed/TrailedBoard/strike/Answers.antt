@@ -18,19 +18,19 @@ left g c = kept-left c.requires.sets c.requires.kept (in_scope g c)
 
 pub leave-requires-clause-place_in : goal.leave-requires-clause-place_in
 leave-requires-clause-place_in g c =
-    rw c.scope.ensures (scope-in (g.met.R.Rules.lawful c.args.rules.now) c.loop-k.k c.requires.house_in (omega (arith, c.requires.sets.as_many)))
+    rw c.requires.places (scope-in (g.met.R.Rules.lawful c.args.rules.now) c.loop-k.k c.requires.house_in (omega (arith, c.requires.sets.as_many)))
 
 pub leave-requires-clause-before : goal.leave-requires-clause-before
 leave-requires-clause-before g c =
     let lt = in_scope g (goal.at.leave-requires-clause-before g c).In-loop-k in
-    rw (c.scope.ensures, upto-next (g.met.R.Rules.lawful c.args.rules.now) c.requires.house_in lt c.loop-k.invariant.upto) (c.requires.sets.bits c.loop-k.k lt)
+    rw (c.requires.places, upto-next (g.met.R.Rules.lawful c.args.rules.now) c.requires.house_in lt c.loop-k.invariant.upto) (c.requires.sets.bits c.loop-k.k lt)
 
 pub leave-requires-clause-left : goal.leave-requires-clause-left
 leave-requires-clause-left g c =
     let here = (goal.at.leave-requires-clause-left g c).In-loop-k in
     let left = left g here in
     rw (
-      c.scope.ensures,
+      c.requires.places,
       upto-cell (g.met.R.Rules.lawful c.args.rules.now) c.requires.house_in (in_scope g here) (within_of _ _ c.requires.board_of) c.loop-k.invariant.upto left,
     ) left
 
@@ -55,7 +55,7 @@ loop-k-preserved g c =
           let e = w.leave.ensures in
           let upto : IsUpto (g.R.Rules.system c.args.rules.now) c.args.house (c.loop-k.k + 1)
           (has c.args.self.now.board) (has w.leave.new.self.board) =
-          rw (e.left, w.scope.ensures)
+          rw (e.left, c.requires.places)
           (upto-left laws c.requires.house_in lt within i.upto left) in
           rw w.self-is (record {
             upto = upto;
@@ -63,7 +63,7 @@ loop-k-preserved g c =
               | inl same ↦ rw same (some (inr w.if-left-eq0.false))
               | inr ne ↦ i.some j (omega arith)
             ];
-            lost = lost-more laws _ c.requires.house_in lt grows e.longer (rw w.scope.ensures at e.noted) e.earlier (rw w.scope.ensures at e.left)
+            lost = lost-more laws _ c.requires.house_in lt grows e.longer (rw c.requires.places at e.noted) e.earlier (rw c.requires.places at e.left)
                 (lost-differ _ upto (are.bits c.loop-k.k lt) left w.if-left-sets.true) i.lost;
             further = further-more i.further e.further;
           })
