@@ -42,6 +42,9 @@ module _ {A : Type 0} (has : A → ℕ → Bool) (t : Track) (sets : List ℕ) (
         ∙ sym (leads_end t p) ∙ ap (λ s. some_leads t s any_cells p) (sym (drop_all i (sets_of sets) (omega (arith, length-map sets (set_of_bits 2)))));
   }
 
+  pub later_rows : {from to : ℕ} → from ≤ to → AreRows has t sets rows from → AreRows has t sets rows to
+  later_rows le are = record { room = are.room; row = λ i p w low upto. are.row i p w (omega arith) upto }
+
   -- what the row of the next cell says
   pub row_next : (from at : ℕ) (next : A) → AreRows has t sets rows from → from ≤ at + 1 → at < length sets → next ≡ get_or rows (at + 1) next
       → some_leads t (drop (at + 1) (sets_of sets)) any_cells ≡ has next

@@ -9,8 +9,8 @@ ghost use Rattle.pattern_core.specs.Track.{AreRowsAlong, IsBelow, along, slots_o
 
 use crate::line_clue::{LineClue, Rows};
 use crate::slots::Slots;
-use crate::table::{Moves, ahead_of, led_by, moves_of, ways_of};
-use crate::track::SpelledClue;
+use crate::table::{ahead_of, ways_of};
+use crate::track::{SpelledClue, TrackSlots};
 use grid_core::Word;
 
 /// The places with that one too, where `on`.
@@ -68,37 +68,37 @@ impl<W: Word> Cells<W> {
         u32::from(self.white.has(k)) + 2 * u32::from(self.black.has(k))
     }
 
-    /// Fills the table for so many cells, from the last one backwards.
-    fn fill_rows<P: Slots>(self, count: usize, moves: &Moves<P>, rows: &mut [P])
+    /// Fills the table for so many cells, from the last one backwards. Nothing asks for the first row.
+    fn fill_rows<P: Slots>(self, count: usize, steps: TrackSlots<P>, rows: &mut [P])
         requires room { count < length rows.old }
         requires fits { count ≤ W.room }
-        ensures { AreRowsAlong P.bits moves.now.steps (sets_in W.bits self count) rows.new }
+        ensures { AreRowsAlong P.bits steps (sets_in W.bits self count) rows.new }
     {
         let mut at = count;
-        rows[at] = moves.steps.ends;
-        while at > 0 {
+        rows[at] = steps.ends;
+        while at > 1 {
             at -= 1;
-            rows[at] = ahead_of(moves, self.set(at), rows[at + 1]);
+            rows[at] = ahead_of(steps, self.white.has(at), self.black.has(at), rows[at + 1]);
         }
     }
 
     /// Keeps of so many cells what a way from the first slot to the end shows there. It asks of no cell what it has, since
     /// that can't be foreseen.
-    fn keep<P: Slots>(self, count: usize, moves: &Moves<P>, rows: &[P]) -> Cells<W>
+    fn keep<P: Slots>(self, count: usize, steps: TrackSlots<P>, rows: &[P]) -> Cells<W>
         requires room { count < length rows.now }
         requires fits { count ≤ W.room }
-        requires rows { AreRowsAlong P.bits moves.now.steps (sets_in W.bits self count) rows.now }
-        requires below { IsBelow P.room (along (slots_of P.bits) moves.now.steps) }
-        ensures { AreCellsShown W.bits (along (slots_of P.bits) moves.now.steps) count self result }
+        requires rows { AreRowsAlong P.bits steps (sets_in W.bits self count) rows.now }
+        requires below { IsBelow P.room (along (slots_of P.bits) steps) }
+        ensures { AreCellsShown W.bits (along (slots_of P.bits) steps) count self result }
     {
         let (mut white, mut black) = (W::none(), W::none());
         let mut reached = P::first();
         for at in 0..count {
-            let ways = ways_of(moves.steps, reached);
+            let ways = ways_of(steps, reached);
             let after = rows[at + 1];
             white = with_if(white, at, ways.white.both(after).is_some());
             black = with_if(black, at, ways.black.both(after).is_some());
-            reached = led_by(moves, self.set(at), reached);
+            reached = ways.by_cell(self.white.has(at), self.black.has(at));
         }
         Cells {
             white: white.both(self.white),
@@ -112,9 +112,9 @@ impl<W: Word> Cells<W> {
         requires fits { count ≤ W.room }
         ensures { AreCellsDecided W.bits clue.now count self result }
     {
-        let moves = moves_of(clue);
-        self.fill_rows(count, &moves, rows);
-        self.keep(count, &moves, rows)
+        let steps = clue.steps();
+        self.fill_rows(count, steps, rows);
+        self.keep(count, steps, rows)
     }
 
     /// The same for a clue spelled in words of either length.
