@@ -28,7 +28,7 @@ module _ (t : Track) (sets : List ℕ) (at : ℕ) (lt : at < length sets) where
   way_here v p small = ap (λ s. some_leads t s (cell_is 0 v) p) next_set ∙ leads_here t (get_or sets at 0) (drop (at + 1) (sets_of sets)) v p small
 
 -- ---- the rows
-leads_end : (t : Track) (p : ℕ) → some_leads t [] any_cells p ≡ t.ends p
+pub leads_end : (t : Track) (p : ℕ) → some_leads t [] any_cells p ≡ t.ends p
 unfolding some_leads some_filling leads any_cells
 leads_end t p = and-true (t.ends p)
 

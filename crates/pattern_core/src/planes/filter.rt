@@ -4,7 +4,7 @@ ghost use Rattle.std.specs.Prelude.{◌<◌, ◌≡◌, ◌≤◌, length};
 ghost use Rattle.grid_core.specs.Extent.{max_side};
 ghost use Rattle.pattern_core.specs.LineRules.{numbers_in};
 ghost use Rattle.pattern_core.specs.Lines.{IsDecidedBy};
-ghost use Rattle.pattern_core.specs.LinePlanes.{AreCellsDecided, AreCellsShown, AreSmall, IsWithIf, set_at, sets_in};
+ghost use Rattle.pattern_core.specs.LinePlanes.{AreCellsDecided, AreCellsShown, AreSettled, AreSmall, IsWithIf, set_at, sets_in};
 ghost use Rattle.pattern_core.specs.Track.{AreRowsAlong, IsBelow, along, slots_of};
 
 use crate::line_clue::{LineClue, Rows};
@@ -106,6 +106,27 @@ impl<W: Word> Cells<W> {
         }
     }
 
+    /// The same where no cell may be both: all of them stay or none, so one way along the clue is enough.
+    fn keep_settled<P: Slots>(self, count: usize, steps: TrackSlots<P>) -> Cells<W>
+        requires fits { count ≤ W.room }
+        requires settled { AreSettled W.bits self count }
+        requires below { IsBelow P.room (along (slots_of P.bits) steps) }
+        ensures { AreCellsShown W.bits (along (slots_of P.bits) steps) count self result }
+    {
+        let mut reached = P::first();
+        for at in 0..count {
+            let ways = ways_of(steps, reached);
+            reached = ways.by_cell(self.white.has(at), self.black.has(at));
+        }
+        if reached.both(steps.ends).is_some() {
+            return self;
+        }
+        Cells {
+            white: W::none(),
+            black: W::none(),
+        }
+    }
+
     /// Keeps of a line of so many cells the values that some filling with the clue's runs has, by the table.
     fn filter_by<P: Slots>(self, count: usize, clue: &SpelledClue<P>, rows: &mut [P]) -> Cells<W>
         requires room { count < length rows.old }
@@ -113,6 +134,9 @@ impl<W: Word> Cells<W> {
         ensures { AreCellsDecided W.bits clue.now count self result }
     {
         let steps = clue.steps();
+        if !self.white.both(self.black).is_some() {
+            return self.keep_settled(count, steps);
+        }
         self.fill_rows(count, steps, rows);
         self.keep(count, steps, rows)
     }
