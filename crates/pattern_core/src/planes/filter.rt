@@ -115,8 +115,7 @@ impl<W: Word> Cells<W> {
     {
         let mut reached = P::first();
         for at in 0..count {
-            let ways = ways_of(steps, reached);
-            reached = ways.by_cell(self.white.has(at), self.black.has(at));
+            reached = ways_of(steps, reached).by_cell(self.white.has(at), self.black.has(at));
         }
         if reached.both(steps.ends).is_some() {
             return self;
@@ -155,7 +154,7 @@ impl<W: Word> Cells<W> {
 }
 
 /// Keeps of each cell of a line the values that some filling of the line with the clue's runs has there. It takes no memory:
-/// the table is written into `rows`. Its steps are four for each cell of the line, of a few word operations each.
+/// the table is written into `rows`. Its steps are at most four for each cell of the line, of a few word operations each.
 pub(crate) fn filter_sets(sets: &mut [u32], clue: &LineClue, rows: &mut Rows)
     requires few { length sets.old ≤ max_side }
     requires small { AreSmall sets.old }

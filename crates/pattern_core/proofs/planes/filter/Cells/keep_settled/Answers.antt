@@ -15,7 +15,7 @@ loop-at-preserved g c =
     let sets = sets_by white black c.args.count in let at = c.loop-at.at in
     let lt : at < length sets = omega (arith, c.loop-at-test.true, length-sets white black c.args.count) in
     reached_next g.P.Word.room t sets (has c.loop-at.reached) (has c.by_cell-reached.result) at c.requires.below lt
-    (λ p low. c.by_cell-reached.ensures p ∙ ap₂ (λ m n. (c.has.result && m) || (c.has-in-loop-at.result && n)) (c.ways_of-ways.ensures.white p low) (c.ways_of-ways.ensures.black p low)
+    (λ p low. c.by_cell-reached.ensures p ∙ ap₂ (λ m n. (c.has.result && m) || (c.has-in-loop-at.result && n)) (c.ways_of.ensures.white p low) (c.ways_of.ensures.black p low)
     ∙ led_with t c.has.result c.has-in-loop-at.result (has c.loop-at.reached) p
     ∙ ap (λ s. led t s (has c.loop-at.reached) p) (ap₂ set_with c.has.ensures c.has-in-loop-at.ensures ∙ sym (sets-at white black c.args.count at c.loop-at-test.true))) c.loop-at.invariant
 
