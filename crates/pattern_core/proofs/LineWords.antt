@@ -1,9 +1,7 @@
 -- Words as sets of places, and the cells of a line as words.
-use Rattle.pattern_core.proofs.Common.{AreRowsKept, Bool, add-one, ahead, List, Track, [], and-false, and-true, ap, arith, cases_Bool, cases_eq, cell_is, common_steps, cond, div-add-mod', eq-eqb, eqb, false, from_bool, fun_ext, get_or, goes_on, has_bit, inl, inr, le-ltb, led, length, lt-ltb, ltb, mod-lt, ne_eqb, one_on, or-false, refl, set_at, set_with, sets_by, sets_of, slice_index, some_leads, can_stay, subst, suc, sym, zero, ℕ, ◌%◌, ◌&&◌, ◌*◌, ◌+◌, ◌-◌, ◌/◌, ◌<◌, ◌||◌, ◌∙◌, ◌∷◌, ◌≡◌, ◌≤◌}
+use Rattle.pattern_core.proofs.Common.{AreRowsKept, Bool, add-one, ahead, List, Track, and-false, and-true, ap, arith, cases_Bool, cases_eq, cell_is, common_steps, cond, eq-eqb, eqb, false, from_bool, fun_ext, get_or, goes_on, has_bit, inl, inr, le-ltb, led, length, lt-ltb, ltb, ne_eqb, one_on, or-false, refl, set_at, set_with, sets_by, sets_of, slice_index, some_leads, can_stay, subst, suc, sym, zero, ℕ, ◌%◌, ◌&&◌, ◌*◌, ◌+◌, ◌-◌, ◌<◌, ◌||◌, ◌∙◌, ◌≡◌, ◌≤◌}
 use Rattle.pattern_core.specs.LinePlanes.{AreSmall}
 use Rattle.std.proofs.lemmas.List.{ext_get_or}
-use Rattle.std.specs.Prelude.{bit_or}
-use Rattle.std.proofs.lemmas.Nat.Bits.{bit_at_cat_low}
 use Rattle.grid_core.proofs.WordLemmas.{either-bits, power-bits, zero-bits}
 use Rattle.std.proofs.lemmas.List.FromFn.{get_or-map-range_with_len, length-map-range_with_len}
 

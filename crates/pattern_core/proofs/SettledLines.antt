@@ -1,5 +1,5 @@
 -- Lines whose cells have one value at most: one way along the clue tells what is kept.
-use Rattle.pattern_core.proofs.Common.{AreRowsKept, Bool, List, Track, [], and_from, and_parts, any_below, any_below-same, any_cells, ap, arith, cases_Bool, cell_is, common_steps, drop, drop_all, eq-eqb, eqb-true, false, get_or, get_or-map, has_bit, leads, length, length-map, refl, set_of_bits, sets_by, sets_of, some_filling, some_leads, subst, suc, sym, true, true≢false, zero, ℕ, ◌&&◌, ◌<◌, ◌∙◌, ◌∷◌, ◌≡◌, ◌≤◌}
+use Rattle.pattern_core.proofs.Common.{AreRowsKept, Bool, List, Track, [], and_from, and_parts, any_below, any_below-same, any_cells, ap, arith, cases_Bool, cell_is, common_steps, drop, drop_all, eq-eqb, eqb-true, false, get_or, get_or-map, has_bit, length, length-map, refl, set_of_bits, sets_by, sets_of, some_leads, subst, suc, sym, true, true≢false, zero, ℕ, ◌&&◌, ◌<◌, ◌∙◌, ◌≡◌, ◌≤◌}
 use Rattle.engine_core.specs.Filling.{Fills, has_value}
 use Rattle.engine_core.specs.FillingLaws.{filling_from_test, has_value_below, test_from_filling}
 use Rattle.pattern_core.proofs.LineWords.{length-sets, sets-bit, word_of}

@@ -1,4 +1,4 @@
-use Rattle.pattern_core.proofs.Common.{Bool, along, and-false, and-true, any_cells, ap, ap₂, arith, false, has_bit, led, length, sets_by, sets_of, set_with, slots_of, some_leads, sym, true, ℕ, ◌&&◌, ◌<◌, ◌||◌, ◌∙◌, ◌≡◌}
+use Rattle.pattern_core.proofs.Common.{along, and-false, and-true, any_cells, ap, ap₂, arith, false, led, length, sets_by, sets_of, set_with, slots_of, some_leads, sym, true, ◌&&◌, ◌<◌, ◌||◌, ◌∙◌, ◌≡◌}
 use Rattle.pattern_core.proofs.LineWords.{led_with, length-sets, sets-at}
 use Rattle.pattern_core.proofs.SettledLines.{met-is, settled-kept}
 use Rattle.pattern_core.proofs.TableSteps.{reached_first, reached_next}
