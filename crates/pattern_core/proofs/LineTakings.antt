@@ -1,5 +1,5 @@
 -- Visits of a line, on boards and on planes.
-use Rattle.pattern_core.proofs.Common.{AreClues, ArePlanes, ArePositive, Bool, Candidates, Column, Decision, Extent, FitsIn, IsAlive, IsBitsOf, IsBoardOf, IsClue, IsDead, IsDecided, IsDecidedBy, IsExtent, IsLawful, IsPattern, IsWithin, Layers, Layout, Line, List, Needs, Pattern, Row, RuleSystem, Taking, [], after, and-true, and_from, and_parts, and_right, any_below, any_below-here, any_below-none, any_below-some, ap, ap₂, arith, at_line, bits-of_values, cases_Bool, cases_eq, cases_lt, clue_of, common_steps, cond, count_below, count_below-none, count_below-pos, count_below-same, counts_of, div-add-mod', div-mul-add, div_below, eq-eqb, eqb, eqb-true, false, false_from_ne_true, fun_ext, get_or, has-within, has_bit, has_lost, has_place, has_place-at, has_place-here, has_runs, line_house, in_grid, inl, inr, is_dead-each, is_dead-here, is_dead-not, kept-decided, kept_in, le-ltb, length, length-line_places, line_cells, line_len, line_places, line_rules, line_rules-lawful, line_short, lines_beside, lines_of, lt-ltb, mod-mul-add, mod_below, needs_of, not, number_of, or_cases, place-in, place_in_column, place_in_row, refl, sets-bits, sets_by, slice_index, strikes_at, strikes_by_fillings, subst, suc, sym, true, true≢false, used, visited-after, zero, ℕ, ◌%◌, ◌&&◌, ◌*◌, ◌+◌, ◌-◌, ◌/◌, ◌<◌, ◌||◌, ◌∙◌, ◌∷◌, ◌≡◌, ◌≤◌, ◌⊎◌}
+use Rattle.pattern_core.proofs.Common.{AreClues, ArePlanes, ArePositive, Bool, Candidates, Column, Decision, Extent, FitsIn, IsAlive, IsBitsOf, IsBoardOf, IsClue, IsDead, IsDecided, IsDecidedBy, IsExtent, IsLawful, IsPattern, IsWithin, Layers, Layout, Line, List, Needs, Pattern, Row, RuleSystem, Taking, [], after, and-true, and_from, and_parts, and_right, any_below, any_below-here, any_below-none, any_below-some, ap, ap₂, arith, at_line, bits-of_values, cases_Bool, cases_eq, cases_lt, clue_of, common_steps, cond, count_below, count_below-none, count_below-pos, count_below-same, counts_of, div-add-mod', div-mul-add, div_below, eq-eqb, eqb, eqb-true, false, false_from_ne_true, fun_ext, get_or, has-within, has_bit, has_lost, has_place, has_place-at, has_place-here, has_runs, line_house, in_grid, inl, inr, is_dead-each, is_dead-here, is_dead-not, kept-decided, kept_in, le-ltb, length, length-line_places, line_cells, line_len, line_places, line_rules, line_rules-lawful, line_short, lines_beside, lines_of, lt-ltb, ltb, mod-mul-add, mod_below, needs_of, not, number_of, or_cases, place_in_column, place_in_row, refl, sets-bits, sets_by, slice_index, strikes_at, strikes_by_fillings, subst, suc, sym, true, true≢false, used, visited-after, zero, ℕ, ◌%◌, ◌&&◌, ◌*◌, ◌+◌, ◌-◌, ◌/◌, ◌<◌, ◌||◌, ◌∙◌, ◌∷◌, ◌≡◌, ◌≤◌}
 use Rattle.grid_core.specs.Candidates.{IsWithin as HasCells}
 unfoldable use Rattle.grid_core.specs.Board.{has as on_board}
 unfoldable use Rattle.grid_core.specs.Planes.{covers, crosses, has, without_taking}
@@ -31,10 +31,6 @@ pub cell-at : (size : Extent) (line : Line) (k : ℕ) → number_of line < lines
     → slice_index (line_places size (line_house size line)) k ≡ cell_of size line k
 cell-at size (Row y) k lt less = let e : (size.w + y) - size.w ≡ y = omega arith in place_in_row size (size.w + y) k (omega arith) less ∙ ap (λ n. n * size.w + k) e
 cell-at size (Column x) k lt less = place_in_column size x k lt less
-
-cell-in : (size : Extent) (line : Line) (k : ℕ) → number_of line < lines_beside size line → k < line_len size line → cell_of size line k < size.w * size.h
-cell-in size (Row y) k lt less = place-in size.w size.h y k lt less
-cell-in size (Column x) k lt less = place-in size.w size.h k x less lt
 
 pub read-at : (p : Layers) (line : Line) (k v : ℕ) → number_of line < lines_beside p.size line → k < line_len p.size line → v < 2
     → has p (cell_of p.size line k) v ≡ at_line p line v k
@@ -122,15 +118,6 @@ module _ (pat : Pattern) (p : Layers) (line : Line) (same : p.size ≡ pat.size)
       let sized : length sets ≡ length places = length-sets white black _ ∙ sym long in
       visited-after (line_rules pat) house (strikes_by_fillings (has_runs (clue_of pat house))) K _ sets kept (λ L c v. refl) within sized bits
       (sets-bits 2 places K sets sized bits) d refl
-
-  -- each cell of the line has a value where the board is alive
-  pub some-had : IsAlive (line_rules pat) K → (k : ℕ) → k < line_len size line → (has_bit white k || has_bit black k) ≡ true
-  unfolding count_below
-  some-had alive k less =
-      let c = cell_of size line k in
-      let some = is_dead-not (size.w * size.h) 2 K c alive (cell-in size line k lt less) in
-      rw (white_is k ∙ sym (reads 0 less (omega arith)), black_is k ∙ sym (reads 1 less (omega arith)))
-      (grind (arith, common_steps, cases_Bool (K c 0), cases_Bool (K c 1), some))
 
   kept-bit : {k v : ℕ} → k < line_len size line → v < 2 → has_bit (slice_index kept k) v ≡ has_bit (word_of white' black' v) k
   kept-bit {k} {v} = sets-bit white' black' _ k v
@@ -325,14 +312,10 @@ unfolding longest
 longest-within scope zero most each = omega arith
 longest-within scope (suc n) most each = grind (arith, common_steps, longest-within scope n most (λ h lt. each h (omega arith)), each n (omega arith))
 
-pub longest-side : {size : Extent} {most : ℕ} → IsExtent size → size.w ≤ most → size.h ≤ most → ((most ≡ size.w) ⊎ (most ≡ size.h)) → most ≡ longest (line_places size) (lines_of size)
-longest-side {size} {most} extent wide high is =
+pub longest-side : {size : Extent} {most : ℕ} → IsExtent size → size.w ≤ most → size.h ≤ most
+    → ((n : ℕ) → size.w ≤ n → size.h ≤ n → most ≤ n) → most ≡ longest (line_places size) (lines_of size)
+longest-side {size} {most} extent wide high least =
     let sides = sides-within size extent in
-    let none_more = longest-within (line_places size) (lines_of size) most (λ h lt. elim (cases_lt h size.w) [
-      | inl less ↦ (let down : line_cells size h ≡ size.h = rw (lt-ltb h size.w less) refl in omega (arith, length-line_places size h, down, high))
-      | inr more ↦ (let across : line_cells size h ≡ size.w = rw (le-ltb h size.w more) refl in omega (arith, length-line_places size h, across, wide))
-    ]) in
-    elim is [
-      | inl e ↦ omega (arith, sides.0, none_more, e)
-      | inr e ↦ omega (arith, sides.1, none_more, e)
-    ]
+    let none_more = longest-within (line_places size) (lines_of size) most
+    (λ h lt. grind (arith, common_steps, cases_Bool (ltb h size.w), length-line_places size h, wide, high)) in
+    omega (arith, least _ sides.0 sides.1, none_more)

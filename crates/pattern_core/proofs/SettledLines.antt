@@ -1,5 +1,5 @@
 -- Lines whose cells have one value at most: one way along the clue tells what is kept.
-use Rattle.pattern_core.proofs.Common.{AreRowsKept, Bool, List, Track, [], and_from, and_parts, any_below, any_below-same, any_cells, ap, arith, cases_Bool, cell_is, common_steps, drop, drop_all, eq-eqb, eqb-true, false, get_or, get_or-map, has_bit, length, length-map, refl, set_of_bits, sets_by, sets_of, some_leads, subst, suc, sym, true, true≢false, zero, ℕ, ◌&&◌, ◌<◌, ◌∙◌, ◌≡◌, ◌≤◌}
+use Rattle.pattern_core.proofs.Common.{AreRowsKept, Bool, List, Track, [], and_from, and_parts, any_below, any_below-same, any_cells, ap, arith, cases_Bool, cases_eq, cell_is, common_steps, drop, drop_all, eq-eqb, eqb-true, false, get_or, get_or-map, has_bit, inl, inr, length, length-map, refl, set_of_bits, sets_by, sets_of, some_leads, subst, suc, sym, true, true≢false, zero, ℕ, ◌&&◌, ◌<◌, ◌∙◌, ◌≡◌, ◌≤◌}
 use Rattle.engine_core.specs.Filling.{Fills, has_value}
 use Rattle.engine_core.specs.FillingLaws.{filling_from_test, has_value_below, test_from_filling}
 use Rattle.pattern_core.proofs.LineWords.{length-sets, sets-bit, word_of}
@@ -18,12 +18,10 @@ met-is {n} {at} {t} {sets} {reached} both r all is =
 
 -- a set of one value at most
 one-value : (set u v : ℕ) → (has_bit set 0 && has_bit set 1) ≡ false → u < 2 → v < 2 → has_bit set u ≡ true → has_bit set v ≡ true → u ≡ v
-one-value set zero zero one lu lv on has = refl
-one-value set zero (suc zero) one lu lv on has = absurd (true≢false (sym (and_from _ _ on has) ∙ one))
-one-value set (suc zero) zero one lu lv on has = absurd (true≢false (sym (and_from _ _ has on) ∙ one))
-one-value set (suc zero) (suc zero) one lu lv on has = refl
-one-value set (suc (suc u)) v one lu lv on has = absurd (omega arith)
-one-value set u (suc (suc v)) one lu lv on has = absurd (omega arith)
+one-value set u v one lu lv on has = elim (cases_eq u v) [
+  | inl e ↦ e
+  | inr ne ↦ (let both : (has_bit set 0 && has_bit set 1) ≡ true = grind (arith, common_steps, cases_eq u 0, cases_eq v 0, on, has) in absurd (true≢false (sym both ∙ one)))
+]
 
 value-of : (set v : ℕ) → v < 2 → has_value (set_of_bits 2 set) v ≡ has_bit set v
 unfolding set_of_bits
@@ -31,16 +29,13 @@ value-of set zero low = refl
 value-of set (suc zero) low = refl
 value-of set (suc (suc v)) low = absurd (omega arith)
 
-module _ (sets : List ℕ) (k : ℕ) (lt : k < length sets) (filling : List ℕ) (f : Fills (sets_of sets) filling) where
-  filled : has_value (set_of_bits 2 (get_or sets k 0)) (get_or filling k 0) ≡ true
-  filled = ap (λ s. has_value s (get_or filling k 0)) (sym (get_or-map _ sets k 0 [] lt)) ∙ f.each k (omega (arith, length-map sets (set_of_bits 2)))
-
-  filled-low : get_or filling k 0 < 2
-  unfolding set_of_bits
-  filled-low = has_value_below (set_of_bits 2 (get_or sets k 0)) (get_or filling k 0) filled
-
-  filled-bit : has_bit (get_or sets k 0) (get_or filling k 0) ≡ true
-  filled-bit = sym (value-of (get_or sets k 0) (get_or filling k 0) filled-low) ∙ filled
+filled : (sets : List ℕ) (k : ℕ) → k < length sets → (filling : List ℕ) → Fills (sets_of sets) filling
+    → (get_or filling k 0 < 2) × (has_bit (get_or sets k 0) (get_or filling k 0) ≡ true)
+unfolding set_of_bits
+filled sets k lt filling f =
+    let has = ap (λ s. has_value s (get_or filling k 0)) (sym (get_or-map (set_of_bits 2) sets k 0 [] lt)) ∙ f.each k (omega (arith, length-map sets (set_of_bits 2))) in
+    let low = has_value_below (set_of_bits 2 (get_or sets k 0)) (get_or filling k 0) has in
+    (low, sym (value-of (get_or sets k 0) (get_or filling k 0) low) ∙ has)
 
 shown-settled : (t : Track) (sets : List ℕ) (k v : ℕ) → k < length sets → v < 2 → (has_bit (get_or sets k 0) 0 && has_bit (get_or sets k 0) 1) ≡ false
     → some_leads t (sets_of sets) (cell_is k v) 0 ≡ (has_bit (get_or sets k 0) v && some_leads t (sets_of sets) any_cells 0)
@@ -49,12 +44,12 @@ shown-settled t sets k v lt low one = same_tests _ _
     (λ on.
     let w = filling_from_test (sets_of sets) _ on in let parts = and_parts _ _ w.2 in
     let e = eqb-true _ _ parts.1 in
-    and_from _ _ (subst (λ u. has_bit (get_or sets k 0) u ≡ true) e (filled-bit sets k lt w.0 w.1))
+    and_from _ _ (subst (λ u. has_bit (get_or sets k 0) u ≡ true) e (filled sets k lt w.0 w.1).1)
     (test_from_filling (sets_of sets) _ w.0 w.1 (and_from _ _ parts.0 refl)))
     (λ on.
     let both = and_parts _ _ on in
     let w = filling_from_test (sets_of sets) _ both.1 in let parts = and_parts _ _ w.2 in
-    let e = one-value (get_or sets k 0) _ v one (filled-low sets k lt w.0 w.1) low (filled-bit sets k lt w.0 w.1) both.0 in
+    let e = one-value (get_or sets k 0) _ v one (filled sets k lt w.0 w.1).0 low (filled sets k lt w.0 w.1).1 both.0 in
     test_from_filling (sets_of sets) _ w.0 w.1 (and_from _ _ parts.0 (eq-eqb _ _ e)))
 
 -- so all is kept, or nothing

@@ -59,12 +59,7 @@ pub(crate) fn visit<W: Word>(
         black: planes.line(line, 1),
     };
     let kept = now.filter(count, rules.clue(house), scratch.rows());
-    if now
-        .white
-        .either(now.black)
-        .but(kept.white.either(kept.black))
-        .is_some()
-    {
+    if W::all(count).but(kept.white.either(kept.black)).is_some() {
         return None;
     }
     let white = now.white.but(kept.white);

@@ -1,5 +1,5 @@
-use Rattle.pattern_core.proofs.Common.{IsDecidedBy, and_parts, any_below-none, any_below-some, ap, arith, cases_Bool, clue_of, common_steps, has_bit, inl, inr, line_house, line_len, not, not-true, or_cases, or_parts, sets_by, sym, true, ℕ, ◌&&◌, ◌<◌, ◌||◌, ◌∙◌, ◌≡◌}
-use Rattle.pattern_core.proofs.LineTakings.{both-taken, cells-in, kept-dead, left-alive, line-long, line-within, lost-at, some-had, taken-is, wide-in}
+use Rattle.pattern_core.proofs.Common.{IsDecidedBy, and_parts, any_below-none, any_below-some, ap, arith, cases_Bool, clue_of, common_steps, has_bit, line_house, line_len, lt-ltb, ltb, ltb-true, not, not-true, or_parts, sets_by, sym, true, ℕ, ◌&&◌, ◌<◌, ◌||◌, ◌∙◌, ◌≡◌}
+use Rattle.pattern_core.proofs.LineTakings.{both-taken, cells-in, kept-dead, left-alive, line-long, line-within, lost-at, taken-is, wide-in}
 use Rattle.pattern_core.proofs.planes.visit.visit.Goals as goal
 use Rattle.pattern_core.proofs.planes.visit.visit.Goals.{After-filter-kept}
 
@@ -23,15 +23,11 @@ returns-then-is_some-clause-visited g c =
     let r = c.requires in let lawful = c.line.ensures.lawful in
     let kept = c.filter-kept.result in let bits = g.W.Word.bits in
     let w = any_below-some (has_bit (bits c.but.result)) g.W.Word.room (sym c.is_some.ensures ∙ c.if-is_some.true) in
-    let parts = and_parts (has_bit (bits c.either.result) w.0) (not (has_bit (bits c.either-2.result) w.0)) (sym (c.but.ensures w.0) ∙ w.2) in
-    let none = or_parts _ _ (sym (c.either-2.ensures w.0) ∙ not-true _ parts.1) in
-    let less : w.0 < line_len c.args.planes.now.size c.args.line = elim (or_cases _ _ (sym (c.either.ensures w.0) ∙ parts.0)) [
-      | inl on ↦ c.line.ensures.within w.0 on
-      | inr on ↦ c.line-2.ensures.within w.0 on
-    ] in
+    let parts = and_parts (ltb w.0 c.line_len-count.result) (not (has_bit (bits c.either.result) w.0)) (rw (c.all.ensures w.0) at (sym (c.but.ensures w.0) ∙ w.2)) in
+    let none = or_parts _ _ (sym (c.either.ensures w.0) ∙ not-true _ parts.1) in
     kept-dead c.args.rules.now.pattern c.args.planes.now c.args.line r.size r.line_in (wide-in lawful r.size)
     (cells-in lawful r.size) _ _ (bits kept.white) (bits kept.black) c.line.ensures.cells c.line-2.ensures.cells (decided g at) w.0
-    (rw r.size at less) none.0 none.1
+    (rw (count g at) at (ltb-true _ _ parts.0)) none.0 none.1
 
 pub returns-clause-visited : goal.returns-clause-visited
 returns-clause-visited g c =
@@ -45,12 +41,11 @@ returns-clause-visited g c =
     let black = λ (k : ℕ). c.but-black.ensures k ∙ ap (λ b. b && not (has_bit (bits kept.black) k)) (c.line-2.ensures.cells k) in
     let lw = bits c.but-white.result in let lb = bits c.but-black.result in
     let left = both-taken p c.take_any.new.planes c.take_any-2.new.planes _ _ r.size c.take_any.ensures.further.same_size c.take_any.ensures.left c.take_any-2.ensures.left in
-    let had = some-had pat p line r.size r.line_in wide cells _ _ (bits kept.white) (bits kept.black) c.line.ensures.cells c.line-2.ensures.cells d r.alive in
     let whole : (k : ℕ) → k < line_len pat.size line → (has_bit (bits kept.white) k || has_bit (bits kept.black) k) ≡ true = λ k less.
     let off = any_below-none (has_bit (bits c.but.result)) g.W.Word.room (sym c.is_some.ensures ∙ c.if-is_some.false) k (omega (arith, less, rw r.size at c.line.ensures.fits)) in
-    grind (arith, common_steps, cases_Bool, off, c.but.ensures k, c.either.ensures k, c.either-2.ensures k, had k less) in
+    grind (arith, common_steps, cases_Bool, off, c.but.ensures k, c.all.ensures k, c.either.ensures k, lt-ltb k c.line_len-count.result (rw (count g at) less)) in
     let taken = taken-is pat p line r.size r.line_in wide cells _ _ (bits kept.white) (bits kept.black) c.line.ensures.cells c.line-2.ensures.cells d inside lw lb white black in (
       left ∙ taken,
       rw left (left-alive pat p line r.size r.line_in wide cells _ _ (bits kept.white) (bits kept.black) c.line.ensures.cells c.line-2.ensures.cells d inside lw lb white black r.alive whole),
-      λ k. rw left (lost-at pat p line r.size r.line_in wide cells _ _ (bits kept.white) (bits kept.black) c.line.ensures.cells c.line-2.ensures.cells d inside lw lb white black (bits c.either-3.result) c.either-3.ensures k),
+      λ k. rw left (lost-at pat p line r.size r.line_in wide cells _ _ (bits kept.white) (bits kept.black) c.line.ensures.cells c.line-2.ensures.cells d inside lw lb white black (bits c.either-2.result) c.either-2.ensures k),
     )
