@@ -7,10 +7,10 @@ use Rattle.pattern_core.proofs.SpelledRuns.{same_tests}
 use Rattle.pattern_core.proofs.TableSteps.{AreReached, leads_end}
 
 -- whether the places reached by all cells have an end
-pub met-is : {n at : ℕ} {t : Track} {sets : List ℕ} {reached : ℕ → Bool} (both : ℕ → Bool) → AreReached n t sets reached at → length sets ≤ at
+met-is : {n at : ℕ} {t : Track} {sets : List ℕ} {reached both : ℕ → Bool} → AreReached n t sets reached at → length sets ≤ at
     → ((p : ℕ) → both p ≡ (reached p && t.ends p)) → any_below both n ≡ some_leads t (sets_of sets) any_cells 0
 unfolding any_cells
-met-is {n} {at} {t} {sets} {reached} both r all is =
+met-is {n} {at} {t} {sets} {reached} {both} r all is =
     any_below-same both (λ p. reached p && some_leads t (drop at (sets_of sets)) any_cells p) n
     (λ p low. is p ∙ ap (λ x. reached p && x) (sym (leads_end t p)
     ∙ ap (λ s. some_leads t s any_cells p) (sym (drop_all at (sets_of sets) (omega (arith, all, length-map sets (set_of_bits 2)))))))
@@ -53,17 +53,17 @@ shown-settled t sets k v lt low one = same_tests _ _
     test_from_filling (sets_of sets) _ w.0 w.1 (and_from _ _ parts.0 (eq-eqb _ _ e)))
 
 -- so all is kept, or nothing
-pub settled-kept : (t : Track) (white black count white' black' : ℕ) (met : Bool) → met ≡ some_leads t (sets_of (sets_by white black count)) any_cells 0
+pub settled-kept : (white black count white' black' : ℕ) {n at : ℕ} {t : Track} {met : Bool} {reached both : ℕ → Bool} → AreReached n t (sets_by white black count) reached at → count ≤ at → ((p : ℕ) → both p ≡ (reached p && t.ends p)) → met ≡ any_below both n
     → ((k : ℕ) → k < count → (has_bit white k && has_bit black k) ≡ false)
     → ((k : ℕ) → has_bit white' k ≡ (has_bit white k && met)) → ((k : ℕ) → has_bit black' k ≡ (has_bit black k && met))
     → AreRowsKept t (sets_by white black count) (sets_by white' black' count)
-settled-kept t white black count white' black' met is one is_white is_black = record {
+settled-kept white black count white' black' {t} {met} r all ends is one is_white is_black = record {
   as_many = length-sets white' black' count ∙ sym (length-sets white black count);
   bits = λ k v lt low.
       let less : k < count = omega (arith, length-sets white black count) in
       let here : (has_bit (get_or (sets_by white black count) k 0) 0 && has_bit (get_or (sets_by white black count) k 0) 1) ≡ false
       = rw (sets-bit white black count k 0 less (omega arith), sets-bit white black count k 1 less (omega arith)) (one k less) in
-      rw (shown-settled t (sets_by white black count) k v lt low here, ← is, sets-bit white' black' count k v less low, sets-bit white black count k v less low) (each k v less low);
+      rw (shown-settled t (sets_by white black count) k v lt low here, ← (is ∙ met-is r (omega (arith, all, length-sets white black count)) ends), sets-bit white' black' count k v less low, sets-bit white black count k v less low) (each k v less low);
 }
   where
     each : (k v : ℕ) → k < count → v < 2 → has_bit (word_of white' black' v) k

@@ -1,9 +1,8 @@
-use Rattle.pattern_core.proofs.Common.{along, and-false, and-true, any_cells, ap, ap₂, arith, false, led, length, sets_by, sets_of, set_with, slots_of, some_leads, sym, true, ◌&&◌, ◌<◌, ◌||◌, ◌∙◌, ◌≡◌}
+use Rattle.pattern_core.proofs.Common.{along, and-false, and-true, ap, ap₂, arith, led, length, sets_by, set_with, slots_of, sym, ◌&&◌, ◌<◌, ◌||◌, ◌∙◌}
 use Rattle.pattern_core.proofs.LineWords.{led_with, length-sets, sets-at}
-use Rattle.pattern_core.proofs.SettledLines.{met-is, settled-kept}
+use Rattle.pattern_core.proofs.SettledLines.{settled-kept}
 use Rattle.pattern_core.proofs.TableSteps.{reached_first, reached_next}
 use Rattle.pattern_core.proofs.planes.filter.Cells.keep_settled.Goals as goal
-use Rattle.pattern_core.proofs.planes.filter.Cells.keep_settled.Goals.{After-is_some}
 
 pub loop-at-init : goal.loop-at-init
 loop-at-init g c = reached_first _ c.requires.below.first c.first-reached.ensures
@@ -19,19 +18,12 @@ loop-at-preserved g c =
     ∙ led_with t c.has.result c.has-in-loop-at.result (has c.loop-at.reached) p
     ∙ ap (λ s. led t s (has c.loop-at.reached) p) (ap₂ set_with c.has.ensures c.has-in-loop-at.ensures ∙ sym (sets-at white black c.args.count at c.loop-at-test.true))) c.loop-at.invariant
 
--- whether the way that all cells show ends the clue
-met : (g : _) (c : After-is_some g) → c.is_some.result
-    ≡ some_leads (along (slots_of g.P.Word.bits) c.args.steps) (sets_of (sets_by (g.W.Word.bits c.args.self.white) (g.W.Word.bits c.args.self.black) c.args.count)) any_cells 0
-met g c = c.is_some.ensures ∙ met-is _ c.loop-at.invariant
-    (omega (arith, c.loop-at-test.false, length-sets (g.W.Word.bits c.args.self.white) (g.W.Word.bits c.args.self.black) c.args.count)) c.both.ensures
-
 pub returns-then-is_some : goal.returns-then-is_some
 returns-then-is_some g c =
-    let at = (goal.at.returns-then-is_some g c).After-is_some in
-    settled-kept _ _ _ c.args.count _ _ true (sym c.if-is_some.true ∙ met g at) c.requires.settled (λ k. sym (and-true _)) (λ k. sym (and-true _))
+    settled-kept _ _ c.args.count _ _ c.loop-at.invariant (omega (arith, c.loop-at-test.false)) c.both.ensures (sym c.if-is_some.true ∙ c.is_some.ensures) c.requires.settled
+    (λ k. sym (and-true _)) (λ k. sym (and-true _))
 
 pub returns : goal.returns
 returns g c =
-    let at = (goal.at.returns g c).After-is_some in
-    settled-kept _ _ _ c.args.count _ _ false (sym c.if-is_some.false ∙ met g at) c.requires.settled
+    settled-kept _ _ c.args.count _ _ c.loop-at.invariant (omega (arith, c.loop-at-test.false)) c.both.ensures (sym c.if-is_some.false ∙ c.is_some.ensures) c.requires.settled
     (λ k. c.none.ensures k ∙ sym (and-false _)) (λ k. c.none-2.ensures k ∙ sym (and-false _))
