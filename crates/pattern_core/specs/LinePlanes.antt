@@ -77,10 +77,6 @@ IsWithIf bits places place on result =
 abbrev pub AreSmall : List ℕ → Type 0
 AreSmall sets = (k : ℕ) → k < length sets → slice_index sets k < 4
 
--- no cell of so many has both values
-abbrev pub AreSettled : {W : Type 0} → (W → ℕ) → Cells W → ℕ → Type 0
-AreSettled bits cells count = (k : ℕ) → k < count → (has_bit (bits cells.white) k && has_bit (bits cells.black) k) ≡ false
-
 -- of so many cells the second words keep what some filling that leads along the track shows; and what some filling with
 -- the clue's runs has
 abbrev pub AreCellsShown : {W : Type 0} → (W → ℕ) → Track → ℕ → Cells W → Cells W → Type 0

@@ -1,10 +1,11 @@
 //! What is kept of a line's cells, as words.
 
-ghost use Rattle.std.specs.Prelude.{◌<◌, ◌≡◌, ◌≤◌, length};
+ghost use Rattle.std.specs.Prelude.{◌&&◌, ◌<◌, ◌≡◌, ◌≤◌, false, length, ℕ};
 ghost use Rattle.grid_core.specs.Extent.{max_side};
+ghost use Rattle.pattern_core.specs.Below.{has_bit};
 ghost use Rattle.pattern_core.specs.LineRules.{numbers_in};
 ghost use Rattle.pattern_core.specs.Lines.{IsDecidedBy};
-ghost use Rattle.pattern_core.specs.LinePlanes.{AreCellsDecided, AreCellsShown, AreSettled, AreSmall, IsWithIf, set_at, sets_in};
+ghost use Rattle.pattern_core.specs.LinePlanes.{AreCellsDecided, AreCellsShown, AreSmall, IsWithIf, set_at, sets_in};
 ghost use Rattle.pattern_core.specs.Track.{AreRowsAlong, IsBelow, along, slots_of};
 
 use crate::line_clue::{LineClue, Rows};
@@ -109,7 +110,8 @@ impl<W: Word> Cells<W> {
     /// The same where no cell may be both: all of them stay or none, so one way along the clue is enough.
     fn keep_settled<P: Slots>(self, count: usize, steps: TrackSlots<P>) -> Cells<W>
         requires fits { count ≤ W.room }
-        requires settled { AreSettled W.bits self count }
+        requires settled { (k : ℕ) → k < count
+            → (has_bit (W.bits self.white) k && has_bit (W.bits self.black) k) ≡ false }
         requires below { IsBelow P.room (along (slots_of P.bits) steps) }
         ensures { AreCellsShown W.bits (along (slots_of P.bits) steps) count self result }
     {

@@ -2,8 +2,7 @@
 
 ghost use Rattle.std.specs.Prelude.{◌<◌, ◌≡◌, ◌≤◌, None, true, ℕ};
 ghost use Rattle.grid_core.specs.Planes.{has_without, line_len, taking};
-ghost use Rattle.grid_core.specs.Words.{has_bit};
-ghost use Rattle.pattern_core.specs.Below.{IsAlive, IsFurther, has, lines_beside, number_of};
+ghost use Rattle.pattern_core.specs.Below.{IsAlive, IsFurther, has, has_bit, lines_beside, number_of};
 ghost use Rattle.pattern_core.specs.LinePlanes.{IsVisitOf, line_house};
 ghost use Rattle.pattern_core.specs.LineRules.{line_rules};
 
