@@ -1,8 +1,8 @@
 //! Which lines wait to be visited.
 
-ghost use Rattle.std.specs.Prelude.{◌<◌, ◌≡◌, false};
+ghost use Rattle.std.specs.Prelude.{◌&&◌, ◌<◌, ◌||◌, ◌≡◌, false, not};
 ghost use Rattle.grid_core.specs.Planes.{number_of};
-ghost use Rattle.pattern_core.specs.LinePlanes.{AreLinesMarked, AreMarkedAfter, IsNextLine, is_marked, is_same};
+ghost use Rattle.pattern_core.specs.LinePlanes.{AreLinesMarked, IsNextLine, crossed_by, is_marked, is_same};
 
 use grid_core::{Line, Word};
 
@@ -44,7 +44,9 @@ impl<W: Word> LinesWaiting<W> {
     /// The line waits no more, and the lines that cross it at these cells wait too.
     pub(crate) fn with_crossing(self, line: Line, cells: W) -> LinesWaiting<W>
         requires { number_of line < W.room }
-        ensures { AreMarkedAfter W.bits self line cells result }
+        ensures { (other : Line) → is_marked W.bits result other
+            ≡ ((is_marked W.bits self other && not (is_same line other))
+            || crossed_by line (W.bits cells) other) }
     {
         match line {
             Line::Column(x) => LinesWaiting {
