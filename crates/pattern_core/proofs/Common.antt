@@ -59,7 +59,7 @@ unfoldable pub use Rattle.pattern_core.specs.LinePlanes.{has_lost, waiting}
 pub use Rattle.pattern_core.specs.LineRules.{line_rules}
 pub use Rattle.pattern_core.specs.Lines.{ArePositive, HasClue, IsDecidedBy, IsRoomy, clue_of}
 unfoldable pub use Rattle.pattern_core.specs.Lines.{has_runs}
-pub use Rattle.pattern_core.specs.Track.{AreRows, AreRowsKept, IsBelow, IsSpelling, IsTrack, Spells, Track, along, set_for, sets_of, slots_of}
+pub use Rattle.pattern_core.specs.Track.{AreRows, AreRowsKept, IsBelow, IsSpelling, IsTrack, Spells, Track, along, set_for, sets_of, set_with, slots_of}
 unfoldable pub use Rattle.pattern_core.specs.Track.{ahead, any_cells, cell_is, cells_from, clue_along, goes_on, leads, led, may_stay, one_on, some_leads}
 unfoldable pub use Rattle.pattern_core.specs.Track.{spelled, can_stay, track_of}
 pub use Rattle.pattern_core.specs.declared.planes.waits.LinesWaiting.{LinesWaiting}

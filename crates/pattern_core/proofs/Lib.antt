@@ -4,5 +4,6 @@ pub mod LineTakings
 pub mod SpelledRuns
 pub mod LineWords
 pub mod TableSteps
+pub mod SettledLines
 pub mod RoomyLines
 pub mod WaitingLines

@@ -1,5 +1,5 @@
 -- Visits of a line, on boards and on planes.
-use Rattle.pattern_core.proofs.Common.{AreClues, ArePlanes, ArePositive, Bool, Candidates, Column, Decision, Extent, FitsIn, IsAlive, IsBitsOf, IsBoardOf, IsClue, IsDead, IsDecided, IsDecidedBy, IsExtent, IsLawful, IsPattern, IsWithin, Layers, Layout, Line, List, Needs, Pattern, Row, RuleSystem, Taking, [], after, and-true, and_from, and_parts, and_right, any_below, any_below-here, any_below-none, any_below-some, ap, ap₂, arith, at_line, bits-of_values, cases_Bool, cases_eq, cases_lt, clue_of, common_steps, cond, count_below, count_below-none, count_below-pos, count_below-same, counts_of, div-add-mod', div-mul-add, div_below, eq-eqb, eqb, eqb-true, false, false_from_ne_true, fun_ext, get_or, has-within, has_bit, has_lost, has_place, has_place-at, has_place-here, has_runs, line_house, in_grid, inl, inr, is_dead-each, is_dead-here, is_dead-not, kept-decided, kept_in, le-ltb, length, length-line_places, line_cells, line_len, line_places, line_rules, line_rules-lawful, line_short, lines_beside, lines_of, lt-ltb, mod-mul-add, mod_below, needs_of, not, number_of, or_cases, place_in_column, place_in_row, refl, sets-bits, sets_by, slice_index, strikes_at, strikes_by_fillings, subst, suc, sym, true, true≢false, used, visited-after, zero, ℕ, ◌%◌, ◌&&◌, ◌*◌, ◌+◌, ◌-◌, ◌/◌, ◌<◌, ◌||◌, ◌∙◌, ◌∷◌, ◌≡◌, ◌≤◌}
+use Rattle.pattern_core.proofs.Common.{AreClues, ArePlanes, ArePositive, Bool, Candidates, Column, Decision, Extent, FitsIn, IsAlive, IsBitsOf, IsBoardOf, IsClue, IsDead, IsDecided, IsDecidedBy, IsExtent, IsLawful, IsPattern, IsWithin, Layers, Layout, Line, List, Needs, Pattern, Row, RuleSystem, Taking, [], after, and-true, and_from, and_parts, and_right, any_below, any_below-here, any_below-none, any_below-some, ap, ap₂, arith, at_line, bits-of_values, cases_Bool, cases_eq, cases_lt, clue_of, common_steps, cond, count_below, count_below-none, count_below-pos, count_below-same, counts_of, div-add-mod', div-mul-add, div_below, eq-eqb, eqb, eqb-true, false, false_from_ne_true, fun_ext, get_or, has-within, has_bit, has_lost, has_place, has_place-at, has_place-here, has_runs, line_house, in_grid, inl, inr, is_dead-each, is_dead-here, is_dead-not, kept-decided, kept_in, le-ltb, length, length-line_places, line_cells, line_len, line_places, line_rules, line_rules-lawful, line_short, lines_beside, lines_of, lt-ltb, ltb, mod-mul-add, mod_below, needs_of, not, number_of, or_cases, place_in_column, place_in_row, refl, sets-bits, sets_by, slice_index, strikes_at, strikes_by_fillings, subst, suc, sym, true, true≢false, used, visited-after, zero, ℕ, ◌%◌, ◌&&◌, ◌*◌, ◌+◌, ◌-◌, ◌/◌, ◌<◌, ◌||◌, ◌∙◌, ◌∷◌, ◌≡◌, ◌≤◌}
 use Rattle.grid_core.specs.Candidates.{IsWithin as HasCells}
 unfoldable use Rattle.grid_core.specs.Board.{has as on_board}
 unfoldable use Rattle.grid_core.specs.Planes.{covers, crosses, has, without_taking}
@@ -8,6 +8,7 @@ use Rattle.engine_core.proofs.HouseLemmas.{kept-after}
 use Rattle.engine_core.specs.Keeping.{AreSetsOf}
 use Rattle.engine_core.specs.PositionLaws.{within_of}
 use Rattle.engine_core.specs.PlaneNotes.{IsSuited}
+unfoldable use Rattle.engine_core.specs.RuleSystem.{longest}
 use Rattle.engine_core.proofs.JudgeLemmas.{scope_le-longest}
 use Rattle.pattern_core.proofs.LineWords.{length-sets, set-small, sets-bit, word_of}
 
@@ -293,11 +294,28 @@ clue_of_line {p} {line} is lt same =
     let short = line_short p.size (0 + line) is.size in
     (subst (ArePositive) (sym same) here.positive, (omega (arith, ap used same)))
 
--- No side of a grid is longer than its longest line.
+-- ---- no side of a grid is longer than its longest line, which is a side
+sides-within : (size : Extent) → IsExtent size → (size.w ≤ longest (line_places size) (lines_of size)) × (size.h ≤ longest (line_places size) (lines_of size))
+sides-within size extent =
+    let row = scope_le-longest (line_places size) (lines_of size) size.w (omega (arith, extent.h_low)) in
+    let column = scope_le-longest (line_places size) (lines_of size) 0 (omega (arith, extent.w_low)) in
+    let wide : line_cells size size.w ≡ size.w = rw (le-ltb size.w size.w (omega arith)) refl in
+    let high : line_cells size 0 ≡ size.h = rw (lt-ltb 0 size.w (omega (arith, extent.w_low))) refl in
+    (omega (arith, row, length-line_places size size.w, wide), omega (arith, column, length-line_places size 0, high))
+
 pub sides-short : (p : Pattern) {had : Needs} → IsExtent p.size → FitsIn (needs_of (line_rules p)) had → had.scope ≤ 64 → IsSuited p.size 64
 sides-short p extent fits short =
-    let row = scope_le-longest (line_places p.size) (lines_of p.size) p.size.w (omega (arith, extent.h_low)) in
-    let column = scope_le-longest (line_places p.size) (lines_of p.size) 0 (omega (arith, extent.w_low)) in
-    let wide : line_cells p.size p.size.w ≡ p.size.w = rw (le-ltb p.size.w p.size.w (omega arith)) refl in
-    let high : line_cells p.size 0 ≡ p.size.h = rw (lt-ltb 0 p.size.w (omega (arith, extent.w_low))) refl in
-    (omega (arith, row, length-line_places p.size p.size.w, wide, fits.scope_in, short), omega (arith, column, length-line_places p.size 0, high, fits.scope_in, short))
+    let sides = sides-within p.size extent in (omega (arith, sides.0, fits.scope_in, short), omega (arith, sides.1, fits.scope_in, short))
+
+longest-within : (scope : ℕ → List ℕ) (n most : ℕ) → ((h : ℕ) → h < n → length (scope h) ≤ most) → longest scope n ≤ most
+unfolding longest
+longest-within scope zero most each = omega arith
+longest-within scope (suc n) most each = grind (arith, common_steps, longest-within scope n most (λ h lt. each h (omega arith)), each n (omega arith))
+
+pub longest-side : {size : Extent} {most : ℕ} → IsExtent size → size.w ≤ most → size.h ≤ most
+    → ((n : ℕ) → size.w ≤ n → size.h ≤ n → most ≤ n) → most ≡ longest (line_places size) (lines_of size)
+longest-side {size} {most} extent wide high least =
+    let sides = sides-within size extent in
+    let none_more = longest-within (line_places size) (lines_of size) most
+    (λ h lt. grind (arith, common_steps, cases_Bool (ltb h size.w), length-line_places size h, wide, high)) in
+    omega (arith, least _ sides.0 sides.1, none_more)

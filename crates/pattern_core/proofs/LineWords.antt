@@ -1,9 +1,7 @@
 -- Words as sets of places, and the cells of a line as words.
-use Rattle.pattern_core.proofs.Common.{AreRowsKept, Bool, List, Track, [], and-false, and-true, ap, arith, cases_Bool, cases_eq, cell_is, common_steps, cond, div-add-mod', eq-eqb, eqb, false, from_bool, fun_ext, get_or, goes_on, has_bit, inl, inr, le-ltb, led, length, lt-ltb, ltb, mod-lt, ne_eqb, one_on, or-false, refl, set_at, sets_by, sets_of, slice_index, some_leads, can_stay, subst, suc, sym, zero, ℕ, ◌%◌, ◌&&◌, ◌*◌, ◌+◌, ◌-◌, ◌/◌, ◌<◌, ◌||◌, ◌∙◌, ◌∷◌, ◌≡◌, ◌≤◌}
+use Rattle.pattern_core.proofs.Common.{AreRowsKept, Bool, add-one, ahead, List, Track, and-false, and-true, ap, arith, cases_Bool, cases_eq, cell_is, common_steps, cond, eq-eqb, eqb, false, from_bool, fun_ext, get_or, goes_on, has_bit, inl, inr, le-ltb, led, length, lt-ltb, ltb, ne_eqb, one_on, or-false, refl, set_at, set_with, sets_by, sets_of, slice_index, some_leads, can_stay, subst, suc, sym, zero, ℕ, ◌%◌, ◌&&◌, ◌*◌, ◌+◌, ◌-◌, ◌<◌, ◌||◌, ◌∙◌, ◌≡◌, ◌≤◌}
 use Rattle.pattern_core.specs.LinePlanes.{AreSmall}
 use Rattle.std.proofs.lemmas.List.{ext_get_or}
-use Rattle.std.specs.Prelude.{bit_or}
-use Rattle.std.proofs.lemmas.Nat.Bits.{bit_at_cat_low}
 use Rattle.grid_core.proofs.WordLemmas.{either-bits, power-bits, zero-bits}
 use Rattle.std.proofs.lemmas.List.FromFn.{get_or-map-range_with_len, length-map-range_with_len}
 
@@ -18,24 +16,26 @@ on_within n at new is (suc p) lt = is (suc p) ∙ rw (lt-ltb _ _ lt, lt-ltb 0 (s
 pub on_past : (n : ℕ) (at new : ℕ → Bool) → ((p : ℕ) → new p ≡ (ltb p n && (ltb 0 p && at (p - 1)))) → (p : ℕ) → n ≤ p → new p ≡ false
 on_past n at new is p high = is p ∙ rw (le-ltb _ _ high) refl
 
--- ---- the lowest two bits, by which masks are looked up
-pub low_two : (set v : ℕ) → v < 2 → has_bit (set % 4) v ≡ has_bit set v
-low_two set v small =
-    sym (ap (λ n. has_bit n v) (sym (div-add-mod' set 4)) ∙ ap (λ n. eqb n 1) (bit_at_cat_low (set / 4) 2 (set % 4) v small))
-
--- what masks say by a set
-pub masks_are : (white black set p : ℕ) → has_bit (get_or (0 ∷ white ∷ black ∷ bit_or white black ∷ []) (set % 4) 0)
-    p ≡ ((has_bit set 0 && has_bit white p) || (has_bit set 1 && has_bit black p))
-masks_are white black set p = grind (arith, common_steps, cases_Bool, either-bits, zero-bits, low_two, mod-lt, or-false)
-
 -- what the operations of words say of their bits
-pub ruleset slot_laws = (power-bits, masks_are)
+pub ruleset slot_laws = (power-bits)
 
 -- the places reached, by the words of a step
 pub led_words : (t : Track) (set : ℕ) (reached next : ℕ → Bool) (p : ℕ) → ((q : ℕ) → next q ≡ (goes_on t set q && reached q))
     → ((can_stay t set p && reached p) || one_on next p) ≡ led t set reached p
 unfolding led
 led_words t set reached next p is = ap (λ f. (can_stay t set p && reached p) || one_on f p) (fun_ext is)
+
+-- by what a cell may be, those places from which it leads on, and those to which it leads
+pub ahead_with : (t : Track) (white black : Bool) (after : ℕ → Bool) (p : ℕ)
+    → ((white && ((t.stay p && after p) || (t.white p && after (p + 1)))) || (black && (t.black p && after (p + 1)))) ≡ ahead t (set_with white black) after p
+unfolding ahead can_stay goes_on
+ahead_with t white black after p = rw add-one (grind (arith, common_steps, cases_Bool white, cases_Bool black, cases_Bool))
+
+pub led_with : (t : Track) (white black : Bool) (reached : ℕ → Bool) (p : ℕ)
+    → ((white && led t 1 reached p) || (black && led t 2 reached p)) ≡ led t (set_with white black) reached p
+unfolding led can_stay goes_on one_on
+led_with t white black reached zero = grind (arith, common_steps, cases_Bool white, cases_Bool black, cases_Bool)
+led_with t white black reached (suc p) = grind (arith, common_steps, cases_Bool white, cases_Bool black, cases_Bool)
 
 -- The cells of a line as words, and as sets.
 

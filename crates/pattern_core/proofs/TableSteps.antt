@@ -28,7 +28,7 @@ module _ (t : Track) (sets : List ℕ) (at : ℕ) (lt : at < length sets) where
   way_here v p small = ap (λ s. some_leads t s (cell_is 0 v) p) next_set ∙ leads_here t (get_or sets at 0) (drop (at + 1) (sets_of sets)) v p small
 
 -- ---- the rows
-leads_end : (t : Track) (p : ℕ) → some_leads t [] any_cells p ≡ t.ends p
+pub leads_end : (t : Track) (p : ℕ) → some_leads t [] any_cells p ≡ t.ends p
 unfolding some_leads some_filling leads any_cells
 leads_end t p = and-true (t.ends p)
 
@@ -41,6 +41,9 @@ module _ {A : Type 0} (has : A → ℕ → Bool) (t : Track) (sets : List ℕ) (
         ap (λ j. has (get_or (set rows (length sets) ends) j w) p) e ∙ ap (λ x. has x p) (get_or-set_same rows (length sets) ends w room) ∙ same p
         ∙ sym (leads_end t p) ∙ ap (λ s. some_leads t s any_cells p) (sym (drop_all i (sets_of sets) (omega (arith, length-map sets (set_of_bits 2)))));
   }
+
+  pub later_rows : {from to : ℕ} → from ≤ to → AreRows has t sets rows from → AreRows has t sets rows to
+  later_rows le are = record { room = are.room; row = λ i p w low upto. are.row i p w (omega arith) upto }
 
   -- what the row of the next cell says
   pub row_next : (from at : ℕ) (next : A) → AreRows has t sets rows from → from ≤ at + 1 → at < length sets → next ≡ get_or rows (at + 1) next

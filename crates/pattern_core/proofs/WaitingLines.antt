@@ -235,19 +235,15 @@ module _ (p : Pattern) (line : Line) (lt : number_of line < lines_beside p.size 
         true≢false (sym (rw (e, crossed-here p.size line lt lost lk) v.0) ∙ off))))
   ]
 
-  module _ {W : Type 0} (bits : W → ℕ) (waits gone now : LinesWaiting W)
-      (first : (other : Line) → is_marked bits gone other ≡ (is_marked bits waits other && not (is_same line other)))
-      (second : (other : Line) → is_marked bits now other ≡ (is_marked bits gone other || crossed_by line lost other)) where
+  module _ {W : Type 0} (bits : W → ℕ) (waits now : LinesWaiting W)
+      (marks : (other : Line) → is_marked bits now other ≡ ((is_marked bits waits other && not (is_same line other)) || crossed_by line lost other)) where
     pub lines-woken : IsWoken (line_rules p) house K K' (waiting bits p.size waits) (waiting bits p.size now)
     unfolding waiting woken but
-    lines-woken = record {
-      marks = λ j less.
-          let l = line_of p.size j in second l ∙ rw (first l, same-house p.size line j lt, crossed-called j) refl;
-    }
+    lines-woken = record { marks = λ j less. marks (line_of p.size j) ∙ rw (same-house p.size line j lt, crossed-called j) refl }
 
     pub lines-within : AreLinesWithin bits p.size waits → AreLinesWithin bits p.size now
-    lines-within within other on = elim (or_cases _ _ (sym (second other) ∙ on)) [
-      | inl old ↦ within other (and_parts _ _ (sym (first other) ∙ old)).0
+    lines-within within other on = elim (or_cases _ _ (sym (marks other) ∙ on)) [
+      | inl old ↦ within other (and_parts _ _ old).0
       | inr new ↦ go line other long lost-in new
     ]
       where

@@ -36,14 +36,10 @@ abbrev pub is_marked : {W : Type 0} → (W → ℕ) → LinesWaiting W → Line 
 is_marked bits waits (Column x) = has_bit (bits waits.columns) x
 is_marked bits waits (Row y) = has_bit (bits waits.rows) y
 
--- the lines that pass wait too; and the line waits no more
+-- the lines that pass wait too
 abbrev pub AreLinesMarked : {W : Type 0} → (W → ℕ) → LinesWaiting W → (Line → Bool) → LinesWaiting W → Type 0
 AreLinesMarked bits before passes now =
     (other : Line) → is_marked bits now other ≡ (is_marked bits before other || passes other)
-
-abbrev pub AreMarkedBut : {W : Type 0} → (W → ℕ) → LinesWaiting W → Line → LinesWaiting W → Type 0
-AreMarkedBut bits before line now = (other : Line)
-    → is_marked bits now other ≡ (is_marked bits before other && not (is_same line other))
 
 -- the line with that number as a house
 abbrev pub line_of : Extent → ℕ → Line

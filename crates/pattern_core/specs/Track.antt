@@ -1,7 +1,7 @@
 -- A clue spelled out as cells, and how a line goes along it. The places along the clue are numbered from 0, before its
 -- first cell. A line that is at a place has passed what is spelled before it. No public contract uses these words.
-use Rattle.std.specs.Prelude.{◌≡◌, ℕ, zero, suc, ◌+◌, ◌<◌, ◌≤◌, Bool, true, false, ◌&&◌, ◌||◌, ◌==◌, List, [], ◌∷◌, ◌++◌, length, get_or, replicate, drop, map, if◌then◌else◌}
-use Rattle.pattern_core.specs.Below.{Set, has_bit, runs, set_of_bits, some_filling, used}
+use Rattle.std.specs.Prelude.{◌≡◌, ℕ, zero, suc, ◌+◌, ◌*◌, ◌<◌, ◌≤◌, Bool, true, false, ◌&&◌, ◌||◌, ◌==◌, List, [], ◌∷◌, ◌++◌, length, get_or, replicate, drop, map, if◌then◌else◌}
+use Rattle.pattern_core.specs.Below.{Set, from_bool, has_bit, runs, set_of_bits, some_filling, used}
 use Rattle.pattern_core.specs.Lines.{ArePositive}
 use Rattle.pattern_core.specs.declared.track.Spelling.{Spelling}
 use Rattle.pattern_core.specs.declared.track.TrackSlots.{TrackSlots}
@@ -71,9 +71,9 @@ set_for (suc _) = 2
 abbrev pub by_set : (ℕ → Bool) → (ℕ → Bool) → ℕ → ℕ → Bool
 by_set white black set p = (has_bit set 0 && white p) || (has_bit set 1 && black p)
 
--- by the set of a cell, those places
-abbrev pub AreBySet : (ℕ → ℕ → Bool) → ℕ → ℕ → Type 0
-AreBySet has white black = (set p : ℕ) → has set p ≡ by_set (has_bit white) (has_bit black) set p
+-- the set of a cell that may be white, or black
+abbrev pub set_with : Bool → Bool → ℕ
+set_with white black = from_bool white + 2 * from_bool black
 
 -- whether a line may stay at the place by a cell of this set, and whether it may go on from there
 unfoldable pub can_stay : Track → ℕ → ℕ → Bool
@@ -81,11 +81,6 @@ can_stay t set p = has_bit set 0 && t.stay p
 
 unfoldable pub goes_on : Track → ℕ → ℕ → Bool
 goes_on t set = by_set t.white t.black set
-
--- by what a cell may be, from which places it moves a line on along a track, and at which the line may stay
-pub record AreMoves (t : Track) (on stay : ℕ → ℕ → Bool) : Type 0 where
-  pub goes : (set p : ℕ) → on set p ≡ goes_on t set p
-  pub rests : (set p : ℕ) → stay set p ≡ can_stay t set p
 
 -- whether there is a way from the place to an end by a cell of this set, where `after` tells it of what follows
 unfoldable pub ahead : Track → ℕ → (ℕ → Bool) → ℕ → Bool
@@ -129,9 +124,9 @@ pub record AreRows {A : Type 0} (has : A → ℕ → Bool) (t : Track) (sets : L
   pub row : (i p : ℕ) (row : A) → from ≤ i → i ≤ length sets
       → has (get_or rows i row) p ≡ some_leads t (drop i (sets_of sets)) any_cells p
 
--- all rows of the table, for steps along a clue
+-- the rows of the table but the first, for steps along a clue
 abbrev pub AreRowsAlong : {A : Type 0} → (A → ℕ) → TrackSlots A → List ℕ → List A → Type 0
-AreRowsAlong bits steps sets rows = AreRows (slots_of bits) (along (slots_of bits) steps) sets rows 0
+AreRowsAlong bits steps sets rows = AreRows (slots_of bits) (along (slots_of bits) steps) sets rows 1
 
 -- the bits kept of the cells are those that some filling shows
 pub record AreRowsKept (t : Track) (sets kept : List ℕ) : Type 0 where

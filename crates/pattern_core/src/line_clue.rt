@@ -41,6 +41,7 @@ pub(crate) enum LineClue {
 
 impl LineClue {
     /// The clue of a line of the puzzle.
+    #[inline(always)]
     pub(crate) fn new(puzzle: &PatternPuzzle, line: usize) -> LineClue
         requires lawful { IsPattern puzzle.now }
         requires line { line < lines_of puzzle.now.size }

@@ -137,6 +137,10 @@ impl Rules for PatternLines {
         line_len(self.size(), house)
     }
 
+    fn longest(&self) -> usize {
+        usize::from(self.size().w().max(self.size().h()))
+    }
+
     #[tactic(auto, using(grid_core::proofs::RegionLemmas::line_laws))]
     fn scope(&self, house: usize, k: usize) -> usize {
         line_place(self.size(), house, k)

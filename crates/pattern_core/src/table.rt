@@ -4,64 +4,51 @@
 //! A line goes along the cells of its spelled clue (see `track`). A row of the table has one bit for each slot along the
 //! clue, and is read and written as one word: it says from which of them the line can still come to the end of the clue.
 //! The rows are filled from the last cell backwards; then one word, the slots that can be reached, goes forwards, and a
-//! value of a cell stays where the two meet. What a cell's set lets a line do is looked up by the set.
+//! value of a cell stays where the two meet.
 
-ghost use Rattle.std.specs.Prelude.{◌≡◌};
-ghost use Rattle.pattern_core.specs.Lines.{ArePositive};
-ghost use Rattle.pattern_core.specs.Track.{AreAhead, AreLed, AreMoves, IsBelow, along, slots_of, spelled, track_of};
+ghost use Rattle.std.specs.Prelude.{◌≡◌, ℕ, ◌&&◌, ◌||◌};
+ghost use Rattle.pattern_core.specs.Track.{AreAhead, AreLed, set_with, slots_of};
 
 use crate::slots::Slots;
-use crate::track::{SpelledClue, TrackSlots};
+use crate::track::TrackSlots;
 
-/// The steps of a line along a clue, and what a cell lets it do, looked up by the cell's set: from which slots the line
-/// goes on, and at which it may stay.
-#[derive(Drop)]
-pub(crate) struct Moves<P: Slots> {
-    pub(crate) steps: TrackSlots<P>,
-    on: P::Masks,
-    stays: P::Masks,
-    ghost are: { AreMoves (along (slots_of P.bits) steps) (P.has_by on) (P.has_by stays) },
-}
-
-/// What a cell lets a line do along a clue.
-pub(crate) fn moves_of<P: Slots>(clue: &SpelledClue<P>) -> Moves<P>
-    ensures track { along (slots_of P.bits) result.steps ≡ track_of (spelled clue.now) }
-    ensures positive { ArePositive clue.now }
-    ensures below { IsBelow P.room (along (slots_of P.bits) result.steps) }
+/// These slots where `on`, and else none.
+fn slots_if<P: Slots>(slots: P, on: bool) -> P
+    ensures { (p : ℕ) → slots_of P.bits result p ≡ (on && slots_of P.bits slots p) }
 {
-    let steps = clue.steps();
-    Moves {
-        steps,
-        on: P::masks(steps.white, steps.black),
-        stays: P::masks(steps.stay, P::none()),
-    }
+    if on { slots } else { P::none() }
 }
 
-/// From which slots there is a way to the end by a cell of this set, by those from which there is one after it.
-#[tactic(auto, unfolding(crate::specs::Track::ahead))]
-pub(crate) fn ahead_of<P: Slots>(moves: &Moves<P>, set: u32, after: P) -> P
-    ensures { AreAhead (slots_of P.bits) moves.now.steps set after result }
-{
-    let next = P::mask(&moves.on, set).both(after.back());
-    P::mask(&moves.stays, set).both(after).either(next)
-}
-
-/// Which slots are reached by a cell of this set, by those that are reached before it.
-pub(crate) fn led_by<P: Slots>(moves: &Moves<P>, set: u32, reached: P) -> P
-    ensures { AreLed P.room (slots_of P.bits) moves.now.steps set reached result }
-{
-    let next = P::mask(&moves.on, set).both(reached).on();
-    P::mask(&moves.stays, set).both(reached).either(next)
-}
-
-/// The slots to which a cell with both values leads: by white, and by black.
+/// Slots by the value of a cell: for a white one, and for a black one.
 #[derive(Clone, Copy)]
 pub(crate) struct Ways<P> {
     pub(crate) white: P,
     pub(crate) black: P,
 }
 
-/// Where a cell with both values leads from the slots that are reached before it.
+impl<P: Slots> Ways<P> {
+    /// The slots for a cell that may be white, or black, as is told.
+    pub(crate) fn by_cell(self, white: bool, black: bool) -> P
+        ensures { (p : ℕ) → slots_of P.bits result p
+            ≡ ((white && slots_of P.bits self.white p) || (black && slots_of P.bits self.black p)) }
+    {
+        slots_if(self.white, white).either(slots_if(self.black, black))
+    }
+}
+
+/// From which slots there is a way to the end by a cell that may be white, or black, by those from which there is one after it.
+pub(crate) fn ahead_of<P: Slots>(steps: TrackSlots<P>, white: bool, black: bool, after: P) -> P
+    ensures { AreAhead (slots_of P.bits) steps (set_with white black) after result }
+{
+    let next = after.back();
+    let ways = Ways {
+        white: steps.stay.both(after).either(steps.white.both(next)),
+        black: steps.black.both(next),
+    };
+    ways.by_cell(white, black)
+}
+
+/// Where a cell leads from the slots that are reached before it.
 pub(crate) fn ways_of<P: Slots>(steps: TrackSlots<P>, reached: P) -> Ways<P>
     ensures white { AreLed P.room (slots_of P.bits) steps 1 reached result.white }
     ensures black { AreLed P.room (slots_of P.bits) steps 2 reached result.black }

@@ -83,7 +83,7 @@ pub(crate) fn close<W: Word>(
                 turns,
             };
         };
-        waits = waits.without(line).with_crossing(line, lost);
+        waits = waits.with_crossing(line, lost);
     }
     Taken {
         closing: Closing::Open,

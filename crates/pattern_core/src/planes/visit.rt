@@ -1,7 +1,8 @@
 //! A visit of a line on planes.
 
-ghost use Rattle.std.specs.Prelude.{◌<◌, ◌≡◌, None};
-ghost use Rattle.pattern_core.specs.Below.{IsAlive, IsFurther, has, lines_beside, number_of};
+ghost use Rattle.std.specs.Prelude.{◌<◌, ◌≡◌, ◌≤◌, None, true, ℕ};
+ghost use Rattle.grid_core.specs.Planes.{has_without, line_len, taking};
+ghost use Rattle.pattern_core.specs.Below.{IsAlive, IsFurther, has, has_bit, lines_beside, number_of};
 ghost use Rattle.pattern_core.specs.LinePlanes.{IsVisitOf, line_house};
 ghost use Rattle.pattern_core.specs.LineRules.{line_rules};
 
@@ -17,6 +18,20 @@ fn line_house(size: Size, line: Line) -> usize
     match line {
         Line::Column(x) => usize::from(x),
         Line::Row(y) => usize::from(size.w()) + usize::from(y),
+    }
+}
+
+/// Takes the value from cells of a line, where there are any: most visits take one value, or none.
+fn take_any<W: Word>(planes: &mut Planes<W>, line: Line, value: u8, bits: W)
+    requires line_in { number_of line < lines_beside planes.old.size line }
+    requires value_in { value < 2 }
+    requires fits { line_len planes.old.size line ≤ W.room }
+    requires within { (k : ℕ) → has_bit (W.bits bits) k ≡ true → k < line_len planes.old.size line }
+    ensures left { has planes.new ≡ has_without planes.old (taking W.bits line value bits) }
+    ensures further { IsFurther planes.old planes.new }
+{
+    if bits.is_some() {
+        planes.take(line, value, bits);
     }
 }
 
@@ -48,7 +63,7 @@ pub(crate) fn visit<W: Word>(
     }
     let white = now.white.but(kept.white);
     let black = now.black.but(kept.black);
-    planes.take(line, 0, white);
-    planes.take(line, 1, black);
+    take_any(planes, line, 0, white);
+    take_any(planes, line, 1, black);
     Some(white.either(black))
 }

@@ -1,8 +1,8 @@
 //! Which lines wait to be visited.
 
-ghost use Rattle.std.specs.Prelude.{◌<◌, ◌≡◌, false};
+ghost use Rattle.std.specs.Prelude.{◌&&◌, ◌<◌, ◌||◌, ◌≡◌, false, not};
 ghost use Rattle.grid_core.specs.Planes.{number_of};
-ghost use Rattle.pattern_core.specs.LinePlanes.{AreMarkedBut, AreLinesMarked, IsNextLine, crossed_by, is_marked, is_same};
+ghost use Rattle.pattern_core.specs.LinePlanes.{AreLinesMarked, IsNextLine, crossed_by, is_marked, is_same};
 
 use grid_core::{Line, Word};
 
@@ -41,35 +41,21 @@ impl<W: Word> LinesWaiting<W> {
         }
     }
 
-    /// The line waits no more.
-    pub(crate) fn without(self, line: Line) -> LinesWaiting<W>
+    /// The line waits no more, and the lines that cross it at these cells wait too.
+    pub(crate) fn with_crossing(self, line: Line, cells: W) -> LinesWaiting<W>
         requires { number_of line < W.room }
-        ensures { AreMarkedBut W.bits self line result }
+        ensures { (other : Line) → is_marked W.bits result other
+            ≡ ((is_marked W.bits self other && not (is_same line other))
+            || crossed_by line (W.bits cells) other) }
     {
         match line {
             Line::Column(x) => LinesWaiting {
                 columns: self.columns.but(W::one(usize::from(x))),
-                rows: self.rows,
-            },
-            Line::Row(y) => LinesWaiting {
-                columns: self.columns,
-                rows: self.rows.but(W::one(usize::from(y))),
-            },
-        }
-    }
-
-    /// The lines that cross the line at these cells wait too.
-    pub(crate) fn with_crossing(self, line: Line, cells: W) -> LinesWaiting<W>
-        ensures { AreLinesMarked W.bits self (crossed_by line (W.bits cells)) result }
-    {
-        match line {
-            Line::Column(_) => LinesWaiting {
-                columns: self.columns,
                 rows: self.rows.either(cells),
             },
-            Line::Row(_) => LinesWaiting {
+            Line::Row(y) => LinesWaiting {
                 columns: self.columns.either(cells),
-                rows: self.rows,
+                rows: self.rows.but(W::one(usize::from(y))),
             },
         }
     }

@@ -69,14 +69,13 @@ loop-line-preserved g c =
     let h = line_house pat.size line in let lt = line-in g at in
     let K = has c.loop-line.planes in let K' = has c.visit.new.planes in
     let v = rw c.in-Some-visit.is at c.visit.ensures.visited in let lost = g.W.Word.bits c.in-Some-visit.lost in
-    let woken = lines-woken pat line lt K K' lost v.2 g.W.Word.bits c.loop-line.waits c.without.result c.with_crossing-waits.result c.without.ensures c.with_crossing-waits.ensures in
+    let woken = lines-woken pat line lt K K' lost v.2 g.W.Word.bits c.loop-line.waits c.with_crossing-waits.result c.with_crossing-waits.ensures in
     record {
       visits = i.visits ++ h ∷ [];
       counted = omega (arith, length-append i.visits (h ∷ []), i.counted);
       running = running-turn (line_rules pat) (line_rules-lawful pat c.args.rules.now.extent) (has c.args.planes.now) i.visits K K' _ _ h i.running (house-in pat.size line lt)
           (waits g at) (cells g at) v.0 woken v.1;
-      within = lines-within pat line lt K K' lost v.2 g.W.Word.bits c.loop-line.waits c.without.result c.with_crossing-waits.result c.without.ensures
-          c.with_crossing-waits.ensures i.within;
+      within = lines-within pat line lt K K' lost v.2 g.W.Word.bits c.loop-line.waits c.with_crossing-waits.result c.with_crossing-waits.ensures i.within;
       further = further-more c.args.planes.now c.loop-line.planes c.visit.new.planes i.further c.visit.ensures.further;
     }
 

@@ -40,7 +40,7 @@ returns-clause-visited g c =
     let white = λ (k : ℕ). c.but-white.ensures k ∙ ap (λ b. b && not (has_bit (bits kept.white) k)) (c.line.ensures.cells k) in
     let black = λ (k : ℕ). c.but-black.ensures k ∙ ap (λ b. b && not (has_bit (bits kept.black) k)) (c.line-2.ensures.cells k) in
     let lw = bits c.but-white.result in let lb = bits c.but-black.result in
-    let left = both-taken p c.take.new.self c.take-2.new.self _ _ r.size c.take.ensures.further.same_size c.take.ensures.left c.take-2.ensures.left in
+    let left = both-taken p c.take_any.new.planes c.take_any-2.new.planes _ _ r.size c.take_any.ensures.further.same_size c.take_any.ensures.left c.take_any-2.ensures.left in
     let whole : (k : ℕ) → k < line_len pat.size line → (has_bit (bits kept.white) k || has_bit (bits kept.black) k) ≡ true = λ k less.
     let off = any_below-none (has_bit (bits c.but.result)) g.W.Word.room (sym c.is_some.ensures ∙ c.if-is_some.false) k (omega (arith, less, rw r.size at c.line.ensures.fits)) in
     grind (arith, common_steps, cases_Bool, off, c.but.ensures k, c.all.ensures k, c.either.ensures k, lt-ltb k c.line_len-count.result (rw (count g at) less)) in
