@@ -27,7 +27,7 @@ STEPS = {
           "fields_core/proofs/TentCounting.antt"),
     "7": ("fields_core/src/planes/tents.rt", "fields_core/src/planes/tents/*", "fields_core/specs/TentWaits.antt",
           "fields_core/proofs/planes/tents/**/*", "fields_core/proofs/TentCompleting.antt", "fields_core/proofs/TentLines.antt",
-          "fields_core/proofs/TentSquareVisits.antt", "fields_core/proofs/TentTree*.antt", "fields_core/proofs/TentWaits.antt"),
+          "fields_core/proofs/TentSquareVisits.antt", "fields_core/proofs/TentTouching.antt", "fields_core/proofs/TentTree*.antt", "fields_core/proofs/TentWaits.antt"),
     "8": ("fields_core/src/tents/check.rt", "fields_core/src/tents/fault.rt", "fields_core/src/tents/pairs.rt",
           "fields_core/src/tents/touch.rt", "fields_core/specs/TentPairs.antt", "fields_core/specs/TentTouching.antt",
           "fields_core/proofs/tents/check/**/*", "fields_core/proofs/tents/pairs/**/*", "fields_core/proofs/tents/touch/**/*",

@@ -101,10 +101,10 @@ pub use Rattle.fields_core.specs.TentPairs.{AreIn, tree_beside, tree_count, tree
 unfoldable pub use Rattle.fields_core.specs.TentPairs.{may_pair}
 pub use Rattle.fields_core.specs.TentSolutions.{IsPairedBy, IsTentSolution}
 pub use Rattle.fields_core.specs.TentTrees.{squares_of_row, two_rows}
-pub use Rattle.fields_core.specs.TentTouching.{IsTentAmong, IsWindow}
+pub use Rattle.fields_core.specs.TentTouching.{HasTouching, IsTentAmong, IsWindow}
 pub use Rattle.fields_core.specs.TentTrees.{AreBare, IsNear, trees_of_row}
 unfoldable pub use Rattle.fields_core.specs.TentTrees.{is_beside, wants_tent}
-pub use Rattle.fields_core.specs.TentWaits.{AreTentsRested, AreTentsWoken, all_of_kind, kind_houses, kind_lines, waiting}
+pub use Rattle.fields_core.specs.TentWaits.{AreTentsRested, AreTentsWoken, AreVisitedOrDoomed, all_of_kind, kind_houses, kind_lines, later_kinds, waiting}
 pub use Rattle.fields_core.specs.Tents.{are_near, leaves_none_out, names_none_twice, tent, tent_cells, tree, trees_beside}
 unfoldable pub use Rattle.fields_core.specs.Tents.{can_be_paired, column_right, row_right, solves_tents, touch_right, touches, tree_right}
 pub use Rattle.fields_core.specs.Visits.{AreIdle, AreVisited}

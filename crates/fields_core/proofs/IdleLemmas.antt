@@ -1,6 +1,6 @@
 -- Houses that are idle: one by one, in parts of a list, and by lines.
 use Rattle.fields_core.proofs.Common.{AllByRecursion, AreDifferent, AreIdle, ArePlanesAlive, AreVisited, Bool, Candidates, CountHouse, IsClosed, IsInside, IsLeast, Layers, List, [], after_house, after_visits, and_parts, any_below, any_below-here, any_below-none, any_below-some, ap, append_assoc, arith, by_fillings-monotone, by_fillings-settled, cases_Bool, cases_eq, cases_lt, common_steps, count_below, count_below-lt, count_house_of, count_puzzle, counts_between, eq-eqb, eqb, false, false_from_ne_true, fun_ext, further-none, get_or-append_seam, has, has_place, houses_below, inl, inr, le-ltb, length, length-append, list_any, list_any-append, lt-ltb, ltb, ne_eqb, no_count_house, not, not-true, or_cases, refl, strikes_at-inside, strikes_of, suc, sym, true, true≢false, zero, ℕ, ◌&&◌, ◌++◌, ◌+◌, ◌-◌, ◌<◌, ◌||◌, ◌∙◌, ◌∷◌, ◌≡◌, ◌≤◌, ◌⊎◌}
-use Rattle.fields_core.proofs.VisitLemmas.{IsBinaryAlive, after-inside, below-rest, others-stay, sweep-broken, sweep-first, sweep-more, visited-left, visits-append, visits-inside}
+use Rattle.fields_core.proofs.VisitLemmas.{IsBinaryAlive, after-inside, below-rest, others-stay, sweep-broken, sweep-first, sweep-more, visited-left, visited-more, visits-append, visits-inside}
 use Rattle.fields_core.proofs.HouseLemmas.{below-more}
 use Rattle.fields_core.proofs.CellLemmas.{first-off}
 
@@ -247,18 +247,32 @@ module _ (f : ℕ → List CountHouse) {n : ℕ} {left : ℕ → Bool} {from to 
   passed-all {room} passed low none =
       visited-skip f passed.line_in passed.visited (λ k at lt. passed.idle k at lt (any_below-none left room none k (omega (arith, lt, low))))
 
-  module _ {next : Layers} {room line : ℕ} {fills : Bool} (passed : AreLinesPassed f n left from to) (least : IsLeast left room line) (visited : AreVisited (f line) to next fills) where
+  module _ {room line : ℕ} (passed : AreLinesPassed f n left from to) (least : IsLeast left room line) where
     below : AreVisited (houses_below f line) from to true
     below = grind (arith, common_steps, visited-skip)
 
     -- the next line has a house with no filling
-    pub passed-broken : fills ≡ false → AreVisited (houses_below f n) from next false
-    passed-broken none = sweep-broken f below visited none (passed.inside line least.has)
+    pub passed-broken : {next : Layers} {fills : Bool} → AreVisited (f line) to next fills → fills ≡ false → AreVisited (houses_below f n) from next false
+    passed-broken visited none = sweep-broken f below visited none (passed.inside line least.has)
+
+    -- or others later leave a cell without a value, whatever is visited between
+    pub passed-doomed : {next : Layers} (later others : List CountHouse) → ((others : List CountHouse) → AreVisited (f line ++ (others ++ later)) to next false)
+        → AreVisited (houses_below f n ++ (others ++ later)) from next false
+    passed-doomed later others dies =
+        let w = below-rest f (line + 1) (n - (line + 1)) in let e : line + 1 + (n - (line + 1)) ≡ n = omega (arith, passed.inside line least.has) in
+        rw (
+          ← e,
+          w.1,
+          below-more f line,
+          append_assoc (houses_below f line ++ f line) w.0 (others ++ later),
+          append_assoc (houses_below f line) (f line) (w.0 ++ (others ++ later)),
+          ← append_assoc w.0 others later,
+        ) (visited-more below refl (dies (w.0 ++ others)))
 
     -- or none, and lines behind it are left
-    pub passed-next : fills ≡ true → (rest : ℕ → Bool) → ((k : ℕ) → rest k ≡ true → (line < k) × (k < n))
+    pub passed-next : {next : Layers} {fills : Bool} → AreVisited (f line) to next fills → fills ≡ true → (rest : ℕ → Bool) → ((k : ℕ) → rest k ≡ true → (line < k) × (k < n))
         → ((k : ℕ) → line < k → k < n → rest k ≡ false → AreIdle (f k) (has next)) → AreLinesPassed f n rest from next
-    passed-next fill rest on idle = record {
+    passed-next visited fill rest on idle = record {
       line = line + 1;
       line_in = omega (arith, passed.inside line least.has);
       behind = λ k there. omega (arith, (on k there).0);

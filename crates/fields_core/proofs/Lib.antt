@@ -31,5 +31,6 @@ pub mod LightSafeCells
 pub mod LightLitVisits
 pub mod LightNumberVisits
 pub mod LightReach
+pub mod TentTouching
 pub mod TentCompleting
 pub mod LightSweeps

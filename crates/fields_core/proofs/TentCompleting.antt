@@ -7,46 +7,8 @@ use Rattle.fields_core.proofs.TentSquareVisits.{square-has}
 use Rattle.fields_core.proofs.BesideLemmas.{cell-in, cell-parts, row-in}
 use Rattle.fields_core.proofs.TentCounting.{square_places, tents-parts}
 use Rattle.fields_core.proofs.TentRuleLemmas.{tents-from}
+use Rattle.fields_core.proofs.TentTouching.{in-square}
 use Rattle.fields_core.proofs.VisitLemmas.{among-back, among-below, among-front, among-met, among-one}
-
--- two numbers that differ by one at most lie in two that follow each other
-record AreSpanned (n a b : ℕ) : Type 0 where
-  pub first : ℕ
-  pub within : first + 1 < n
-  pub one_in : (eqb a first || eqb a (first + 1)) ≡ true
-  pub other_in : (eqb b first || eqb b (first + 1)) ≡ true
-
-spanned : {n a b : ℕ} → 2 ≤ n → a < n → b < n → a ≤ b + 1 → b ≤ a + 1 → AreSpanned n a b
-spanned {n} {a} {b} two la lb ab ba = elim (cases_lt a b) [
-  | inl less ↦ record {
-    first = a;
-    within = omega arith;
-    one_in = or_left _ _ (eq-eqb a a refl);
-    other_in = or_right _ _ (eq-eqb b (a + 1) (omega arith));
-  }
-  | inr most ↦ elim (cases_lt b a) [
-    | inl more ↦ record {
-      first = b;
-      within = omega arith;
-      one_in = or_right _ _ (eq-eqb a (b + 1) (omega arith));
-      other_in = or_left _ _ (eq-eqb b b refl);
-    }
-    | inr same ↦ elim (cases_lt (a + 1) n) [
-      | inl inner ↦ record {
-        first = a;
-        within = inner;
-        one_in = or_left _ _ (eq-eqb a a refl);
-        other_in = or_left _ _ (eq-eqb b a (omega arith));
-      }
-      | inr last ↦ record {
-        first = a - 1;
-        within = omega arith;
-        one_in = or_right _ _ (eq-eqb a (a - 1 + 1) (omega arith));
-        other_in = or_right _ _ (eq-eqb b (a - 1 + 1) (omega arith));
-      }
-    ]
-  ]
-]
 
 module _ (p : Tents) (g : List ℕ) (is : IsTents p) (grid : IsGrid (tent_cells p) 2 g) (met : AreMet (tent_counts p) g) where
   trees-right : (c : ℕ) → c < tent_cells p → tree_right p g c ≡ true
@@ -88,25 +50,17 @@ module _ (p : Tents) (g : List ℕ) (is : IsTents p) (grid : IsGrid (tent_cells 
   apart : (c d : ℕ) → c < tent_cells p → d < tent_cells p → tent g c ≡ true → tent g d ≡ true → touches p.size c d ≡ true → ⊥
   unfolding touches meets_house
   apart c d lc ld tc td on =
-      let w = p.size.w in let some : 0 < p.size.w = omega (arith, is.size.w_two) in
-      let parts = and_parts (not (eqb c d)) _ on in let near = and_parts _ _ parts.1 in
-      let rows = and_parts _ _ near.0 in let columns = and_parts _ _ near.1 in
-      let y = spanned {n = p.size.h} {a = c / w} {b = d / w} is.size.h_two (row-in p.size.h c some lc) (row-in p.size.h d some ld)
-      (leb-true (c / w) (d / w + 1) rows.0) (leb-true (d / w) (c / w + 1) rows.1) in
-      let x = spanned {n = w} {a = c % w} {b = d % w} is.size.w_two (mod-lt c some) (mod-lt d some)
-      (leb-true (c % w) (d % w + 1) columns.0) (leb-true (d % w) (c % w + 1) columns.1) in
-      let at = y.first * w + x.first in let own = cell-parts {w = w} y.first {r = x.first} at (omega (arith, x.within)) refl in
-      let wide : at % w + 1 < w = omega (arith, own.1, x.within) in
-      let tall : at / w + 1 < p.size.h = omega (arith, own.0, y.within) in
-      let inside : at < tent_cells p = cell-in p.size.h some (omega (arith, own.0, y.within)) in
+      let w = p.size.w in let s = in-square p is lc ld on in
+      let at = s.row * w + s.column in let own = cell-parts {w = w} s.row {r = s.column} at (omega (arith, s.wide)) refl in
+      let wide : at % w + 1 < w = omega (arith, own.1, s.wide) in
+      let tall : at / w + 1 < p.size.h = omega (arith, own.0, s.low) in
+      let inside : at < tent_cells p = cell-in p.size.h (omega (arith, s.wide)) (omega (arith, own.0, s.low)) in
       let counts = and_parts _ _ (square-met at inside wide tall) in let few = leb-true (nonzeros (map (slice_index g) (square_places w at))) 1 counts.1 in
       omega (
         arith,
         few,
         ones-bulbs g (square_places w at) (small-at grid),
-        count-two (tent g) (square_places w at) c d
-            (square-has y.first x.first c x.within ∙ and_from _ _ y.one_in x.one_in) (square-has y.first x.first d x.within ∙ and_from _ _ y.other_in x.other_in) tc td
-            (λ e. true≢false (sym (eq-eqb _ _ e) ∙ not-true _ parts.0)),
+        count-two (tent g) (square_places w at) c d s.first_in s.second_in tc td s.apart,
       )
 
   touch-right : (c : ℕ) → c < tent_cells p → touch_right p g c ≡ true

@@ -57,7 +57,7 @@ near-from : (a b : ℕ) → a ≤ b + 1 → b ≤ a + 1 → are_near a b ≡ tru
 near-from a b p q = and_from _ _ (le-leb _ _ p) (le-leb _ _ q)
 
 -- a cell of row v and column u is touched where both are near
-touch-from : (size : Extent) (a d v u : ℕ) → d ≡ v * size.w + u → u < size.w → (d ≡ a → ⊥)
+pub touch-from : (size : Extent) (a d v u : ℕ) → d ≡ v * size.w + u → u < size.w → (d ≡ a → ⊥)
     → a / size.w ≤ v + 1 → v ≤ a / size.w + 1 → a % size.w ≤ u + 1 → u ≤ a % size.w + 1
     → touches size a d ≡ true
 unfolding touches

@@ -155,7 +155,7 @@ module _ (p : Tents) (y : ℕ) (lawful : IsTents p) (low : y + 1 < p.size.h) whe
 -- Visits of the squares of two rows of Tents.
 
 -- ---- visits of the squares of two rows
-zero-at : (q : Layers) (y : ℕ) {u : ℕ} {w : ℕ} → q.size.w ≡ w → u < w → has q (y * w + u) 0 ≡ bit_of q.rows y 0 u
+pub zero-at : (q : Layers) (y : ℕ) {u : ℕ} {w : ℕ} → q.size.w ≡ w → u < w → has q (y * w + u) 0 ≡ bit_of q.rows y 0 u
 unfolding has
 zero-at q y {u} same lt = rw (same, div-mul-add y _ u lt, place-column _ y u lt) refl
 

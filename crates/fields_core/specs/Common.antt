@@ -59,10 +59,10 @@ pub use Rattle.fields_core.specs.TentPairs.{AreIn, AreNumbered, HasPairingRoom, 
 unfoldable pub use Rattle.fields_core.specs.TentPairs.{may_pair}
 pub use Rattle.fields_core.specs.TentSolutions.{IsTentSolution}
 pub use Rattle.fields_core.specs.TentTrees.{squares_of_row}
-pub use Rattle.fields_core.specs.TentTouching.{IsTentAmong, IsWindow}
+pub use Rattle.fields_core.specs.TentTouching.{HasTouching, IsTentAmong, IsWindow}
 pub use Rattle.fields_core.specs.TentTrees.{AreBare, AreBeside, AreTakenBeside, IsNear, trees_of_row}
 unfoldable pub use Rattle.fields_core.specs.TentTrees.{is_beside, wants_tent}
-pub use Rattle.fields_core.specs.TentWaits.{AreTentsRested, AreTentsSettled, AreTentsWoken, AreWaitingLines, all_of_kind, kind_houses, kind_lines, waiting}
+pub use Rattle.fields_core.specs.TentWaits.{AreTentsRested, AreTentsSettled, AreTentsWoken, AreVisitedOrDoomed, AreWaitingLines, all_of_kind, kind_houses, kind_lines, waiting}
 pub use Rattle.fields_core.specs.Tents.{tent, tent_cells, tree}
 unfoldable pub use Rattle.fields_core.specs.Tents.{can_be_paired, touches}
 pub use Rattle.fields_core.specs.Visits.{AreIdle, AreVisited}

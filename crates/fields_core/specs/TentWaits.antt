@@ -1,5 +1,5 @@
 -- Which houses of Tents wait on planes, and what is kept beside these. No public contract uses these words.
-use Rattle.std.specs.Prelude.{Bool, List, false, map, nat_lt, ℕ, ◌&&◌, ◌+◌, ◌<◌, ◌||◌, ◌≡◌, ◌≤◌}
+use Rattle.std.specs.Prelude.{Bool, List, [], false, map, nat_lt, true, ℕ, ◌&&◌, ◌++◌, ◌+◌, ◌<◌, ◌||◌, ◌≡◌, ◌≤◌}
 use Rattle.fields_core.specs.Below.{Candidates, Extent, IsTents, Layers, Tents, Touched, has, has_bit}
 use Rattle.fields_core.specs.CountHouse.{CountHouse, houses_below}
 use Rattle.fields_core.specs.Parts.{ArePlanesAlive}
@@ -29,6 +29,22 @@ kind_lines p Squares = p.size.h
 
 abbrev pub all_of_kind : Tents → Kind → List CountHouse
 all_of_kind p kind = houses_below (kind_houses p kind) (kind_lines p kind)
+
+-- and all of the kinds that come later
+abbrev pub later_kinds : Tents → Kind → List CountHouse
+later_kinds p Columns = all_of_kind p Rows ++ (all_of_kind p Trees ++ all_of_kind p Squares)
+later_kinds p Rows = all_of_kind p Trees ++ all_of_kind p Squares
+later_kinds p Trees = all_of_kind p Squares
+later_kinds p Squares = []
+
+-- visits of houses of a kind took the planes from the first to the second; or these visits, others of whatever houses, and
+-- those of the later kinds leave a cell without a value
+pub record AreVisitedOrDoomed (p : Tents) (kind : Kind) (houses : List CountHouse)
+    (from to : Layers) (fills : Bool)
+    : Type 0 where
+  pub left : fills ≡ true → AreVisited houses from to true
+  pub dies : fills ≡ false → (others : List CountHouse)
+      → AreVisited (houses ++ (others ++ later_kinds p kind)) from to false
 
 abbrev pub waiting : {W : Type 0} → (W → ℕ) → TentWaits W → Kind → ℕ
 waiting bits waits Columns = bits waits.columns

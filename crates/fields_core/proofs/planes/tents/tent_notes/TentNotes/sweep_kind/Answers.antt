@@ -1,6 +1,7 @@
-use Rattle.fields_core.proofs.Common.{AreTentsRested, AreVisited, Columns, Rows, Squares, Tents, Trees, all_of_kind, arith, fewer_left, has, has_bit, kind_houses, kind_lines, refl, sym, true, ℕ, ◌∙◌, ◌≡◌, ◌≤◌}
+use Rattle.fields_core.proofs.Common.{AreTentsRested, AreVisited, Columns, Rows, Squares, Tents, Trees, all_of_kind, arith, fewer_left, has, has_bit, kind_houses, kind_lines, later_kinds, refl, sym, true, true≢false, ℕ, ◌∙◌, ◌≡◌, ◌≤◌}
 use Rattle.fields_core.specs.declared.planes.tents.waits.Kind.{Kind}
-use Rattle.fields_core.proofs.IdleLemmas.{passed-all, passed-broken}
+use Rattle.fields_core.proofs.IdleLemmas.{passed-all, passed-doomed}
+use Rattle.fields_core.proofs.TentTouching.{filled-or-dead}
 use Rattle.fields_core.proofs.HouseOrder.{quiet-done, quiet-next}
 use Rattle.fields_core.proofs.TentWaits.{field-further, kind-each, kind-first, kind-quiet, rested-woken}
 use Rattle.fields_core.proofs.planes.tents.tent_notes.TentNotes.sweep_kind.Goals as goal
@@ -27,14 +28,17 @@ loop-left-smaller g c =
     c.lowest.ensures.within c.lowest.ensures.has (λ k. c.without_lowest-left.ensures c.lowest.result k c.lowest.ensures)
 
 pub returns-then-not-visit-clause-visited : goal.returns-then-not-visit-clause-visited
-returns-then-not-visit-clause-visited g c =
-    passed-broken (kind_houses c.args.puzzle.now c.args.kind) c.loop-left.invariant.passed c.lowest.ensures c.visit.ensures.visited c.if-not-visit.true
+returns-then-not-visit-clause-visited g c = record {
+  left = λ e. absurd (true≢false (sym e));
+  dies = λ _ others. passed-doomed (kind_houses c.args.puzzle.now c.args.kind) c.loop-left.invariant.passed c.lowest.ensures
+      (later_kinds c.args.puzzle.now c.args.kind) others (c.visit.ensures.visited.dies c.if-not-visit.true);
+}
 
 pub loop-left-preserved : goal.loop-left-preserved
 loop-left-preserved g c = record {
   passed = quiet-next (kind-quiet c.args.puzzle.now c.requires.ready.field.lawful c.args.kind)
       (kind-each c.args.puzzle.now c.requires.ready.field.lawful c.args.kind) (rw (c.requires.ready.field.size) refl) c.loop-left.invariant.passed
-      c.lowest.ensures c.visit.ensures.visited c.if-not-visit.false _
+      c.lowest.ensures (c.visit.ensures.visited.left c.if-not-visit.false) refl _
       (λ k. c.without_lowest-left.ensures c.lowest.result k c.lowest.ensures);
   trees = c.visit.ensures.trees ∙ c.loop-left.invariant.trees;
   waits = c.visit.ensures.waits ∙ c.loop-left.invariant.waits;
@@ -47,7 +51,7 @@ whole g c =
     (few-lines c.args.puzzle.now c.args.kind c.requires.ready.field.narrow c.requires.ready.field.low) (sym c.is_some.ensures ∙ c.loop-left-test.false)
 
 pub returns-clause-visited : goal.returns-clause-visited
-returns-clause-visited g c = whole g (goal.at.returns-clause-visited g c).After-settle
+returns-clause-visited g c = filled-or-dead c.args.puzzle.now c.args.kind (whole g (goal.at.returns-clause-visited g c).After-settle)
 
 pub returns-clause-ready : goal.returns-clause-ready
 returns-clause-ready g c = λ _.
