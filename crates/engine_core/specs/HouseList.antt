@@ -1,5 +1,6 @@
 -- Lists of houses, tables of them, and rules whose houses are listed.
 use Rattle.std.specs.Prelude.{List, [], drop, length, map, nat_lt, slice_index, slice_index_or, sum_by, ℕ, ◌&&◌, ◌*◌, ◌++◌, ◌+◌, ◌/◌, ◌<◌, ◌==◌, ◌^◌, ◌||◌, ◌∷◌, ◌≡◌, ◌≤◌}
+use Rattle.std.specs.List.{between, range_with_len}
 use Rattle.grid_core.specs.Pieces.{AreEnds, last_end, pieces}
 use Rattle.engine_core.specs.RuleSystem.{RuleSystem, has_place}
 use Rattle.engine_core.specs.HouseSets.{AreBelow, AreDifferent}
@@ -22,6 +23,10 @@ with_place list place = record list { begun = list.begun ++ place ∷ [] }
 
 abbrev pub with_end : Listed → Listed
 with_end list = record { closed = list.closed ++ list.begun ∷ []; begun = [] }
+
+-- so many lists of so many places each, one after another
+abbrev pub cut_evenly : ℕ → List ℕ → ℕ → List (List ℕ)
+cut_evenly long places lists = map (λ k. between (k * long) (k * long + long) places) (range_with_len 0 lists)
 
 -- the begun list may have so many places more: a list has fewer than 2^12
 abbrev pub FitsPlaces : Listed → ℕ → Type 0

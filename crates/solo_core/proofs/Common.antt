@@ -49,5 +49,4 @@ unfoldable pub use Rattle.solo_core.specs.Singles.{strikes_where}
 pub use Rattle.solo_core.specs.SolutionLaws.{differ_in, given_from_test, rule_from_test, test_from_rule}
 pub use Rattle.solo_core.specs.Ways.{ComesAfter, ComesBefore, IsTransitiveClosure, LiesOnRounds, StaysBefore}
 unfoldable pub use Rattle.solo_core.specs.Ways.{IsWay}
-pub use Rattle.solo_core.specs.Work.{strided}
 pub use Rattle.solo_core.specs.declared.fault.SoloFault.TheVariants.{Given}

@@ -1,7 +1,7 @@
 -- The lemmas by which the functions of a file are proved.
 use Rattle.solo_core.proofs.Common.{append-nil, both-bits, bound_is, column_in, crossings_lawful, crossings_rules-bound, either-bits, house_count, houses_lawful, length-map-range_with_len, listed-has, listed-same, lists_house, row_in, rule_from_test, singles_lawful, test_from_rule, zero-bits}
 use Rattle.solo_core.proofs.RepeatLemmas.{fine_more, given_first, len_of, number_at, seen_again, seen_all, seen_more, seen_none}
-use Rattle.solo_core.proofs.HouseLemmas.{all-length, crossing-after, crossings-counted, crossings-length, decides-at, filled-length, first-at, first_at, house-named, kept-houses, length-deciding, line-low, line-more, listed-all, listed-crossings, listed-deciding, listed-none, long-at, scope-named, scopes-length, second-at, started, started-all, started-blank, started-given, started-none, started-there}
+use Rattle.solo_core.proofs.HouseLemmas.{all-length, crossing-after, crossings-counted, crossings-length, decides-at, filled-length, first-at, first_at, house-more, house-named, kept-houses, length-deciding, listed-all, listed-crossings, listed-deciding, listed-none, long-at, scope-named, scopes-length, second-at, started, started-all, started-blank, started-given, started-none, started-there}
 use Rattle.solo_core.proofs.CrossingLemmas.{any-more, any-none, cut_by, crossing-is, crossings-listed, rest-out, rest-in, rest-all, shared-below, shared-above}
 use Rattle.solo_core.proofs.SinglesLemmas.{singles_in_houses}
 use Rattle.solo_core.proofs.PeelLemmas.{lone-counts, counts-none, counts-more, peeled-step, counts-same, peeled-none, peeled-more, rest-peeled, settled-peeled}
@@ -39,7 +39,7 @@ pub ruleset laws_laws = (
   scope-named,
 )
 
-pub ruleset lists_laws = (append-nil, length-map-range_with_len, line-low, line-more)
+pub ruleset lists_laws = (append-nil, house-more, length-map-range_with_len)
 
 pub ruleset peel_laws =
     (both-bits, either-bits, lone-counts, counts-none, counts-more, peeled-step, counts-same, peeled-none, peeled-more, rest-peeled, settled-peeled)

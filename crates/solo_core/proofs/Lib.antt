@@ -4,6 +4,7 @@ pub mod WayLemmas
 pub mod TurnLemmas
 pub mod RepeatLemmas
 pub mod HouseLemmas
+mod ListLemmas
 pub mod SinglesLemmas
 mod PeelLemmas
 mod NarrowLemmas

@@ -1,6 +1,6 @@
 -- How the lists of houses grow.
-use Rattle.std.specs.Prelude.{◌≡◌, ℕ, ◌+◌, ◌*◌, List, [], ◌∷◌, ◌++◌, map}
-use Rattle.std.specs.List.{range_with_len}
+use Rattle.std.specs.Prelude.{◌%◌, ◌*◌, ◌++◌, ◌+◌, ◌/◌, ◌<◌, ◌∷◌, ◌≡◌, List, [], slice_index, ℕ}
+use Rattle.gameid_core.specs.Puzzles.{Solo, solo_n}
 use Rattle.engine_core.specs.HouseList.{Listed}
 
 -- these lists of places, closed, and none begun
@@ -15,13 +15,17 @@ HasAdded more old new = new ≡ closed_lists (old.closed ++ more)
 abbrev pub HasBegun : List ℕ → Listed → Listed → Type 0
 HasBegun more old new = new ≡ record { closed = old.closed; begun = old.begun ++ more }
 
--- the list with one more closed list of places, and none begun; and the list with these places begun
+-- the list with one more closed list of places, and none begun
 abbrev pub HasClosed : List ℕ → Listed → Listed → Type 0
 HasClosed places = HasAdded (places ∷ [])
 
-abbrev pub BeginsList : List ℕ → Listed → Listed → Type 0
-BeginsList places old new = new ≡ record { closed = old.closed; begun = places }
+-- the place of a block's k-th cell
+abbrev pub block_cell : ℕ → ℕ → ℕ → ℕ → ℕ
+block_cell c r b k = ((b / c) * c + k / r) * (c * r) + ((b % c) * r + k % r)
 
--- so many places, the first and each a step after the one before
-abbrev pub strided : ℕ → ℕ → ℕ → List ℕ
-strided first step count = map (λ k. first + k * step) (range_with_len 0 count)
+-- the places of the rows, after them the first m of the columns, and where those end the first m of the blocks
+pub record HasHouses (p : Solo) (m : ℕ) (all : List ℕ) : Type 0 where
+  pub rows : (j : ℕ) → j < solo_n p * solo_n p → slice_index all j ≡ j
+  pub columns : (j : ℕ) → j < m → slice_index all (solo_n p * solo_n p + j) ≡ j % solo_n p * solo_n p + j / solo_n p
+  pub blocks : (j : ℕ) → j < m
+      → slice_index all (solo_n p * solo_n p + (solo_n p * solo_n p + j)) ≡ block_cell p.c p.r (j / solo_n p) (j % solo_n p)

@@ -1,9 +1,9 @@
 //! Houses as lists of places, one after another.
 #![tactic(auto, using(crate::proofs::LawSets::house_list_laws))]
 
-ghost use Rattle.std.specs.Prelude.{◌++◌, ◌<◌, ◌^◌, ◌∷◌, ◌≡◌, IfOk, OnOk, [], length, slice_index, slice_index_or, sum_by};
+ghost use Rattle.std.specs.Prelude.{◌++◌, ◌<◌, ◌^◌, ◌∷◌, ◌≡◌, IfOk, OnOk, [], length, slice_index, slice_index_or, sum_by, vec_len, ◌*◌};
 ghost use Rattle.engine_core.specs.Common.{last_end};
-ghost use Rattle.engine_core.specs.HouseList.{FitsPlaces, FitsLists, with_end, with_place};
+ghost use Rattle.engine_core.specs.HouseList.{FitsPlaces, FitsLists, cut_evenly, with_end, with_place};
 
 use grid_core::Fixed;
 use std::alloc::{AllocError, Global};
@@ -41,6 +41,31 @@ impl HouseList {
             places: Vec::with_capacity(alloc, places)?,
             ends: Vec::with_capacity(alloc, houses)?,
         })
+    }
+
+    /// The lists of these places, one after another, and `long` in each. There is room for `room` lists.
+    ///
+    /// # Errors
+    ///
+    /// When memory was refused.
+    pub fn cut(
+        alloc: Global,
+        places: Vec<u32>,
+        long: usize,
+        lists: usize,
+        room: usize,
+    ) -> Result<HouseList, AllocError>
+        requires few { lists < 2 ^ 20 }
+        requires short { long < 2 ^ 12 }
+        requires whole { vec_len places ≡ lists * long }
+        ensures { IfOk result (λ list. list
+            ≡ record { closed = cut_evenly long places.items lists; begun = [] }) }
+    {
+        let mut ends = Vec::with_capacity(alloc, room)?;
+        for list in 0..lists {
+            ends.push((list + 1) * long)?;
+        }
+        Ok(HouseList { places, ends })
     }
 
     /// Adds a place to the begun list.

@@ -8,7 +8,7 @@ ghost use Rattle.solo_core.specs.RuleSets.{crossing_of, crossings_of, rest_of_li
 ghost use Rattle.solo_core.specs.Work.{HasAdded, HasBegun, HasClosed};
 
 use crate::houses::house::NamedHouse;
-use crate::houses::lists::push_block;
+use crate::houses::lists::push_house;
 use crate::houses::numbers::crossing_at;
 use crate::houses::places::{lies, place};
 use engine_core::HouseList;
@@ -58,7 +58,7 @@ fn push_crossing(
     requires fits { FitsLists list.old 1 }
     ensures { OnOk result (HasClosed (crossing_of puzzle.now block line).places list.old list.new) }
 {
-    push_block(list, puzzle, block)?;
+    push_house(list, puzzle, NamedHouse::Block(block))?;
     push_rest(list, puzzle, block, line)?;
     list.end()?;
     Ok(())

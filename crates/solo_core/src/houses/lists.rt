@@ -1,56 +1,60 @@
 //! The places of the houses, as lists.
 #![tactic(auto, using(crate::proofs::LawSets::lists_laws))]
 
-ghost use Rattle.std.specs.Prelude.{◌≡◌, ◌*◌, ◌+◌, ◌<◌, ◌≤◌, [], IfOk, OnOk};
+ghost use Rattle.std.specs.Prelude.{◌≡◌, ◌*◌, ◌+◌, ◌<◌, ◌≤◌, [], IfOk, OnOk, length};
 ghost use Rattle.engine_core.specs.HouseList.{FitsPlaces};
 ghost use Rattle.grid_core.specs.Candidates.{max_values};
-ghost use Rattle.grid_core.specs.Regions.{block_places};
-ghost use Rattle.solo_core.specs.Common.{IsSolo, house_places, solo_n};
-ghost use Rattle.solo_core.specs.Work.{BeginsList, HasBegun, closed_lists, strided};
+ghost use Rattle.solo_core.specs.Common.{IsSolo, IsSoloHouse, house_places, places_of, solo_cells, solo_n};
+ghost use Rattle.solo_core.specs.Work.{HasBegun, HasHouses, closed_lists};
 
-use crate::houses::places::houses;
+use crate::houses::house::NamedHouse;
+use crate::houses::places::{houses, place};
 use engine_core::HouseList;
 use gameid_core::SoloPuzzle;
 use std::alloc::{AllocError, Global};
 
-/// Adds so many places to the begun list: the first, and each `step` after the one before.
-fn push_line(
+/// Adds the places of a house to the begun list.
+pub(crate) fn push_house(
     list: &mut HouseList,
-    first: usize,
-    step: usize,
-    count: usize,
+    puzzle: &SoloPuzzle,
+    house: NamedHouse,
 ) -> Result<(), AllocError>
-    requires first_low { first < 1000 }
-    requires step_low { step ≤ max_values + 1 }
-    requires few { count ≤ max_values }
-    requires fits { FitsPlaces list.old count }
-    ensures { OnOk result (HasBegun (strided first step count) list.old list.new) }
+    requires house_of { IsSoloHouse puzzle.now house }
+    requires fits { FitsPlaces list.old max_values }
+    ensures lawful { IsSolo puzzle.now }
+    ensures begun { OnOk result (HasBegun (places_of puzzle.now house) list.old list.new) }
 {
-    for k in 0..count {
-        list.push(first + k * step)?;
+    for k in 0..usize::from(puzzle.n()) {
+        list.push(place(puzzle, house, k))?;
     }
     Ok(())
 }
 
-/// Begins a list with the places of a block: its rows, one after another.
-pub(crate) fn push_block(
-    list: &mut HouseList,
-    puzzle: &SoloPuzzle,
-    b: usize,
-) -> Result<(), AllocError>
-    requires block_in { b < solo_n puzzle.now }
-    requires closed { list.old.begun ≡ [] }
-    ensures lawful { IsSolo puzzle.now }
-    ensures begun { OnOk result
-        (BeginsList (block_places puzzle.now.c puzzle.now.r b) list.old list.new) }
+/// Writes the places of the rows, after them those of the columns, and after them those of the blocks.
+fn write_houses(all: &mut [u32], puzzle: &SoloPuzzle)
+    requires { length all.old ≡ 3 * solo_n puzzle.now * solo_n puzzle.now }
+    ensures long { length all.new ≡ length all.old }
+    ensures houses { HasHouses puzzle.now (solo_cells puzzle.now) all.new }
 {
+    let n = usize::from(puzzle.n());
     let c = usize::from(puzzle.c());
     let r = usize::from(puzzle.r());
-    let corner = b / c * c * (c * r) + b % c * r;
-    for y in 0..c {
-        push_line(list, corner + y * (c * r), 1, r)?;
+    let mut first_block = [0u32; 31];
+    for cell in 0..puzzle.n() {
+        let (y, x) = (cell / puzzle.r(), cell % puzzle.r());
+        first_block[usize::from(cell)] = u32::from(y) * u32::from(puzzle.n()) + u32::from(x);
     }
-    Ok(())
+    for place in 0..n * n {
+        all[place] = place as u32;
+    }
+    for h in 0..n {
+        let corner = h / c * c * n + h % c * r;
+        for k in 0..n {
+            let at = n * n + h * n + k;
+            all[at] = (k * n + h) as u32;
+            all[n * n + at] = corner as u32 + first_block[k];
+        }
+    }
 }
 
 /// The places of each house: rows, columns, blocks, and in Solo X both diagonals. There is room for so many lists more of
@@ -66,25 +70,16 @@ pub(crate) fn list_houses(
 {
     let n = usize::from(puzzle.n());
     let count = houses(puzzle);
-    let mut list = HouseList::new(alloc, count + more, (count + 2 * more) * n)?;
-    for y in 0..n {
-        push_line(&mut list, y * n, 1, n)?;
-        list.end()?;
-    }
-    for x in 0..n {
-        push_line(&mut list, x, n, n)?;
-        list.end()?;
-    }
-    for b in 0..n {
-        push_block(&mut list, puzzle, b)?;
-        list.end()?;
-    }
+    let mut places = Vec::with_capacity(alloc, (count + 2 * more) * n)?;
+    places.resize(3 * n * n, 0u32)?;
+    write_houses(&mut places, puzzle);
+    let mut list = HouseList::cut(alloc, places, n, 3 * n, count + more)?;
     if !puzzle.x() {
         return Ok(list);
     }
-    push_line(&mut list, 0, n + 1, n)?;
+    push_house(&mut list, puzzle, NamedHouse::Diagonal(0))?;
     list.end()?;
-    push_line(&mut list, n - 1, n - 1, n)?;
+    push_house(&mut list, puzzle, NamedHouse::Diagonal(1))?;
     list.end()?;
     Ok(list)
 }
