@@ -1,6 +1,9 @@
 -- Cells that are settled, and what is left of the others.
-use Rattle.solo_core.proofs.Common.{AreSettledBut, IsOutside, IsPassedCell, IsPeeled, IsRest, IsSingleSet, List, [], ap, arith, cases_Bool, cases_eq, cases_lt, eq-eqb, eqb-true, false, false_from_ne_true, get_or_append_left, get_or_push, has_bit, has_in, inl, inr, length, length-append, or_cases, refl, slice_index, sym, true, true_from_ne_false, true≢false, zero-bits, ℕ, ◌++◌, ◌+◌, ◌<◌, ◌||◌, ◌∙◌, ◌∷◌, ◌≡◌}
-use Rattle.solo_core.proofs.BitLemmas.{none_in_zero}
+use Rattle.std.specs.Prelude.{count_ones}
+use Rattle.std.proofs.lemmas.Nat.{ones_le_self}
+use Rattle.std.proofs.lemmas.Bool.{ltb-true}
+use Rattle.solo_core.proofs.Common.{and_parts, nat_tests, ◌&&◌, ltb, lt-ltb, ◌^◌, ◌≤◌, AreSettledBut, IsOutside, IsPassedCell, IsPeeled, IsRest, IsSingleSet, List, [], ap, arith, cases_Bool, cases_eq, cases_lt, eq-eqb, eqb-true, false, false_from_ne_true, get_or_append_left, get_or_push, has_bit, has_in, inl, inr, length, length-append, or_cases, refl, slice_index, sym, true, true_from_ne_false, true≢false, zero-bits, ℕ, ◌++◌, ◌+◌, ◌<◌, ◌||◌, ◌∙◌, ◌∷◌, ◌≡◌}
+use Rattle.solo_core.proofs.BitLemmas.{none_in_zero, one_value, ones_or}
 use Rattle.solo_core.proofs.MateLemmas.{in_or_out}
 use Rattle.solo_core.proofs.NarrowLemmas.{IsNarrowed}
 use Rattle.solo_core.proofs.PeelLemmas.{counts-more, counts-same}
@@ -97,6 +100,61 @@ module _ {values n settled : ℕ} {sets rest : List ℕ} (s : AreSettledBut valu
         (λ j on. (omega (arith, on.0), passed j on.0 on.1));
     below = s.below;
   }
+
+-- ---- there are as many values as settled cells at most, and if as many, these are settled
+pub record IsSettling (values : ℕ) (sets rest : List ℕ) (n taken : ℕ) : Type 0 where
+  pub few : count_ones taken + length rest ≤ n
+  pub settled : count_ones taken + length rest ≡ n → AreSettledBut values sets rest n taken
+
+pub settling-none : (values : ℕ) (sets : List ℕ) → IsSettling values sets [] 0 0
+settling-none values sets = record { few = omega (arith, ones_le_self 0); settled = λ e. settled-none none_in_zero }
+
+module _ {values n taken : ℕ} {sets rest : List ℕ} (s : IsSettling values sets rest n taken) where
+  pub settling-but : IsSettling values sets (rest ++ n ∷ []) (n + 1) taken
+  settling-but = record {
+    few = omega (arith, length-append rest (n ∷ []), s.few);
+    settled = λ e. settled-but (s.settled (omega (arith, length-append rest (n ∷ []))));
+  }
+
+  pub settling-more : (more : ℕ) → taken < 2 ^ 32 → more < 2 ^ 32 → slice_index sets n < 2 ^ 32 → count_ones (slice_index sets n) ≡ 1
+      → ((v : ℕ) → has_bit more v ≡ (has_bit taken v || (has_in sets n v && ltb v values))) → IsSettling values sets rest (n + 1) more
+  settling-more more low_t low_m low one is = record {
+    few = omega (arith, s.few, most, one);
+    settled = λ e.
+        let w = one_value (slice_index sets n) low one in
+        let twice : ((v : ℕ) → has_bit more v ≡ true → has_bit taken v ≡ true) → ⊥ = λ inside.
+        absurd (omega (arith, e, s.few, ones_none, ones_or taken 0 more low_t (omega arith) low_m (λ v on. inl (inside v on)))) in
+        elim (cases_Bool (has_bit taken w.0)) [
+          | inl on ↦ absurd (twice (λ v has. elim (or_cases (has_bit taken v) (has_in sets n v && ltb v values) (sym (is v) ∙ has)) [
+            | inl was ↦ was
+            | inr here ↦ rw (eqb-true v w.0 (sym (w.2 v) ∙ (and_parts _ _ here).0)) on
+          ]))
+          | inr off ↦ elim (cases_lt w.0 values) [
+            | inl inside ↦ settled-more (s.settled (omega (arith, e, s.few, most, one))) w.0 inside w.1 off w.2
+                (λ v. is v ∙ elim (cases_Bool (has_in sets n v)) [
+                  | inl on ↦ let at = eqb-true v w.0 (sym (w.2 v) ∙ on) in let lt : v < values = omega arith in let t = lt-ltb v values lt in grind (arith, nat_tests)
+                  | inr out ↦ grind (arith, nat_tests)
+                ])
+            | inr outside ↦ absurd (twice (λ v has. elim (or_cases (has_bit taken v) (has_in sets n v && ltb v values) (sym (is v) ∙ has)) [
+              | inl was ↦ was
+              | inr here ↦
+                  let both = and_parts _ _ here in
+                  let at = eqb-true v w.0 (sym (w.2 v) ∙ both.0) in
+                  absurd (omega (arith, ltb-true v values both.1, at))
+            ]))
+          ]
+        ];
+  }
+    where
+      ones_none : count_ones 0 ≡ 0
+      ones_none = omega (arith, ones_le_self 0)
+
+      most : count_ones more ≤ count_ones taken + count_ones (slice_index sets n)
+      most = ones_or taken (slice_index sets n) more low_t low low_m (λ v on.
+          elim (or_cases (has_bit taken v) (has_in sets n v && ltb v values) (sym (is v) ∙ on)) [
+            | inl was ↦ inl was
+            | inr here ↦ inr (and_parts _ _ here).0
+          ])
 
 -- ---- the values of the settled cells are struck from the others
 abbrev pub drops_settled : ℕ → ℕ → ℕ → Type 0

@@ -116,11 +116,6 @@ abbrev pub AreSettledCells : List ℕ → List ℕ → ℕ → Type 0
 AreSettledCells sets rest values =
     AreValueCounts sets (λ k. (k < length sets) × IsPassedCell rest 0 k) values values 0
 
--- the set has one value alone, which is not taken
-abbrev pub IsNewSingle : ℕ → ℕ → Type 0
-IsNewSingle taken set =
-    (v : ℕ) × (v < 32) × (has_bit set v ≡ true) × (has_bit taken v ≡ false) × IsSingleSet set v
-
 -- the first n cells but the rest have one value each, which no other of them has, and these values are settled
 pub record AreSettledBut (values : ℕ) (sets rest : List ℕ) (n settled : ℕ) : Type 0 where
   pub few : length rest ≤ n

@@ -33,9 +33,9 @@ pub(crate) fn keep_houses(values: u8, sets: &[u32], kept: &mut [u32], pairing: &
     ensures none { result ≡ false → KeepsFillings values sets.now sets.now }
     ensures room { pairing.new.room ≡ pairing.old.room }
 {
-    let mut others = ArrayVec::new();
-    let settled = settle(values, sets, kept, &mut others);
-    let rest: &[u8] = &others;
+    let mut others = [0u8; MANY];
+    let (settled, count) = settle(values, sets, kept, &mut others);
+    let rest: &[u8] = &others[..count];
     let (counts, is_struck) = strike_settled(values, settled, rest, kept);
     if counts.are_open() {
         let lone = peel(values, counts, settled, rest, kept);

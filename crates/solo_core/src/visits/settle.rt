@@ -1,49 +1,50 @@
 //! The cells of a house that are settled: those with one value alone.
 #![tactic(auto, using(crate::proofs::LawSets::settle_laws))]
 
-ghost use Rattle.std.specs.Prelude.{◌≡◌, ◌≤◌, [], false, length, true};
+ghost use Rattle.std.specs.Prelude.{◌≡◌, ◌≤◌, false, if◌then◌else◌, length, take};
 ghost use Rattle.grid_core.specs.Candidates.{max_values};
-ghost use Rattle.solo_core.specs.PeeledHouses.{AreAllCounts, AreLone, AreMetOutside, AreSettledBut, AreSettledCells, IsNewSingle, IsPeeled, IsRest};
+ghost use Rattle.solo_core.specs.PeeledHouses.{AreAllCounts, AreLone, AreMetOutside, AreSettledBut, AreSettledCells, IsPeeled, IsRest};
 
 use crate::visits::bits::{all_below, others_below};
-use crate::visits::graph::MANY;
 use crate::visits::peel::Counts;
-use arrayvec::ArrayVec;
 
-/// Copies the sets, and lists the cells that are not settled. A cell is if it has one value alone, and no cell before it has that
-/// one alone. Tells the values of those that are.
-pub(crate) fn settle(
-    values: u8,
-    sets: &[u32],
-    copy: &mut [u32],
-    rest: &mut ArrayVec<u8, MANY>,
-) -> u32
+/// Copies the sets, and lists the cells that are not settled. Those with one value alone are, if their values are different;
+/// else none is. Tells the values of the settled cells, and how many cells are listed.
+pub(crate) fn settle(values: u8, sets: &[u32], copy: &mut [u32], rest: &mut [u8]) -> (u32, usize)
     requires few { values ≤ max_values }
     requires square { length sets.now ≡ values }
     requires as_many { length copy.old ≡ length sets.now }
-    requires none { rest.old.items ≡ [] }
+    requires room { length sets.now ≤ length rest.old }
     ensures copied { copy.new ≡ sets.now }
-    ensures settled { AreSettledBut values sets.now rest.new.items (length sets.now) result }
+    ensures within { result.1 ≤ length rest.new }
+    ensures settled { AreSettledBut values sets.now (take result.1 rest.new) (length sets.now)
+        result.0 }
 {
     let all = all_below(values);
-    let mut taken = !all;
+    let (mut taken, mut count) = (0, 0);
     for cell in 0..sets.len() {
         let set = sets[cell];
         copy[cell] = set;
-        if is_new_single(set, taken) {
-            taken |= set;
-        } else {
-            rest.push(cell as u8);
-        }
+        rest[count] = cell as u8;
+        let is_open = set.count_ones() != 1;
+        count += usize::from(is_open);
+        taken |= unless(is_open, set);
     }
-    taken & all
+    let settled = taken & all;
+    if settled.count_ones() as usize + count == sets.len() {
+        return (settled, count);
+    }
+    for cell in 0..sets.len() {
+        rest[cell] = cell as u8;
+    }
+    (0, sets.len())
 }
 
-/// Whether the set has one value alone, and this is not taken.
-fn is_new_single(set: u32, taken: u32) -> bool
-    ensures { result ≡ true → IsNewSingle taken set }
+/// The set, or where `on` none of it. No step depends on that.
+fn unless(on: bool, set: u32) -> u32
+    ensures { result ≡ (if on then 0 else set) }
 {
-    set.count_ones() == 1 && set & taken == 0
+    set & u32::from(on).wrapping_sub(1)
 }
 
 /// Strikes the values of the settled cells from the rest, and counts the values of all. Says whether anything was struck.
