@@ -37,8 +37,8 @@ def lines_and_blocks(c, r, x):
     return rows, columns, blocks, diagonals
 
 
-def some_filling(sets):
-    """Whether each cell can take a number from its set, all different."""
+def one_filling(sets):
+    """Which cell takes which number from its set, all different; nothing where they can't."""
     owner = {}
 
     def place(cell, tried):
@@ -49,7 +49,7 @@ def some_filling(sets):
                 return True
         return False
 
-    return all(place(cell, set()) for cell in range(len(sets)))
+    return owner if all(place(cell, set()) for cell in range(len(sets))) else None
 
 
 def by_singles(sets, n):
@@ -73,7 +73,7 @@ def by_fillings(sets, n):
         (k, v)
         for k, s in enumerate(sets)
         for v in s
-        if not some_filling([{v} if j == k else t for j, t in enumerate(sets)])
+        if one_filling([{v} if j == k else t for j, t in enumerate(sets)]) is None
     }
 
 

@@ -6,7 +6,6 @@ changed, so there are boards without a solution, with one, and with several. Eac
 grids have to be the plain program's: it visits all houses in turn, copies its board for each trial, and keeps nothing else.
 A walk that takes it too long is passed over, and counted. Prints a line for each kind, and what differs, with status 1.
 """
-import argparse
 import collections
 import itertools
 import random
@@ -15,7 +14,7 @@ import sys
 import time
 
 import shared
-from crossings import by_fillings, lines_and_blocks
+from crossings import by_fillings, lines_and_blocks, one_filling
 from lib import words
 from lib.work import begin
 
@@ -28,19 +27,10 @@ class Late(Exception):
     """A walk that takes the plain program too long."""
 
 
-def by_one_filling(sets, n):
+def by_one_filling(sets, _n):
     """The same as `by_fillings`. Of one filling cells change their numbers in turn, until one has the number that was left."""
-    owner = {}
-
-    def place(cell, tried):
-        for value in sets[cell] - tried:
-            tried.add(value)
-            if value not in owner or place(owner[value], tried):
-                owner[value] = cell
-                return True
-        return False
-
-    if not all(place(cell, set()) for cell in range(n)):
+    owner = one_filling(sets)
+    if owner is None:
         return {(k, v) for k, s in enumerate(sets) for v in s}
     struck = set()
     for value, cell in owner.items():
