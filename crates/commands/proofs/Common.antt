@@ -74,7 +74,7 @@ pub use Rattle.commands.specs.Common.{hides_nothing, houses_rules, in_range, is_
 pub use Rattle.commands.specs.Common.{light_rules, line_rules, line_rules-lawful, max_id, only, pattern_cell, rule_from_test, solo_rules_of, scopes_of}
 pub use Rattle.commands.specs.Common.{singles_rules, size_of, solo_cell, solo_extent, tent_hides, tent_rules, tents_cell, test_from_rule, verdict_of, walk}
 pub use Rattle.commands.specs.Each.{AllowsEach, Answered, BeginsLines, Begun, HasAnswers, Stopped, both, silence}
-pub use Rattle.commands.specs.Games.{game_of, puzzle_of}
+pub use Rattle.commands.specs.Games.{game_of, puzzle_type}
 pub use Rattle.commands.specs.Grades.{HasOneSolution, IsRightGrade, NamedRules, SaysGrade, first_settled, grade_by, grade_status, grade_text, last_tried}
 pub use Rattle.commands.specs.Grades.{listed_grade, only_set, rule_set_text}
 unfoldable pub use Rattle.commands.specs.Grades.{searched_grade}

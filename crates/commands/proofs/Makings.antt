@@ -1,7 +1,7 @@
 -- What makings rest on: each has an answer, and two answers to one differ only in which clues are left.
 use Rattle.commands.proofs.Fillings.{light_thinned, solo_missing, solo_thinned}
 use Rattle.commands.proofs.SearchedPuzzles.{first_once, first_or_none, has_one, tents_searched}
-use Rattle.commands.proofs.Common.{AllowsMade, AllowsOfSize, Answer, Bool, DifferInClues, Err, Extent, Game, HandOutAlike, HasOneAnswer, HasWords, IsExtent, IsFirstPassing, IsGrid, IsHandedOut, IsSoloSize, IsTents, IsWide, Light, List, MadePuzzle, Making, None, NonePasses, Ok, Option, PuzzleFacts, SameLight, SameSolo, SizeRange, SizeRead, Some, Text, Wanted, [], all_given, and_parts, ap, arith, bind_ok, black_cells-grid, cases_eq, chosen, common_steps, exhausted_answer, extent_of, false, filling_at, game_of, handed_out, if◌then◌else◌, in_range, inl, inr, is_solution-from, is_solution-is, leb-true, light_facts, light_filling, light_is_game, light_is_written, light_passes, light_puzzle_of, line_rules-lawful, nat_le, ok_is, pattern_facts, pattern_is_written, puzzle_of, refl, size_of, size_take, solo_facts, solo_filling, solo_is_game, solo_is_written, solo_passes, stream_after, subst, suc, sym, taken, tents_facts, tents_is_written, tents_sizes, true, true≢false, zero, ℕ, ◌&&◌, ◌*◌, ◌↔◌, ◌∙◌, ◌≡◌, ◌≢◌, ◌≤◌}
+use Rattle.commands.proofs.Common.{AllowsMade, AllowsOfSize, Answer, Bool, DifferInClues, Err, Extent, Game, HandOutAlike, HasOneAnswer, HasWords, IsExtent, IsFirstPassing, IsGrid, IsHandedOut, IsSoloSize, IsTents, IsWide, Light, List, MadePuzzle, Making, None, NonePasses, Ok, Option, PuzzleFacts, SameLight, SameSolo, SizeRange, SizeRead, Some, Text, Wanted, [], all_given, and_parts, ap, arith, bind_ok, black_cells-grid, cases_eq, chosen, common_steps, exhausted_answer, extent_of, false, filling_at, game_of, handed_out, if◌then◌else◌, in_range, inl, inr, is_solution-from, is_solution-is, leb-true, light_facts, light_filling, light_is_game, light_is_written, light_passes, light_puzzle_of, line_rules-lawful, nat_le, ok_is, pattern_facts, pattern_is_written, puzzle_type, refl, size_of, size_take, solo_facts, solo_filling, solo_is_game, solo_is_written, solo_passes, stream_after, subst, suc, sym, taken, tents_facts, tents_is_written, tents_sizes, true, true≢false, zero, ℕ, ◌&&◌, ◌*◌, ◌↔◌, ◌∙◌, ◌≡◌, ◌≢◌, ◌≤◌}
 use Rattle.fields_core.proofs.TentRuleLemmas as tents
 use Rattle.gameid_core.proofs.LineLaws.{ones_lawful, runs_lawful}
 use Rattle.gameid_core.specs.Lines.{lines_ones, lines_runs}
@@ -284,7 +284,7 @@ light_making w words text read is = record {
     bulbs k = (filling_at (light_filling size w.black) k w.stream).bulbs
 
 -- ---- the answers to a size's text
-abbrev pub alike_of : (g : Game) → puzzle_of g → puzzle_of g → Type 0
+abbrev pub alike_of : (g : Game) → puzzle_type g → puzzle_type g → Type 0
 alike_of game.Pattern p q = p ≡ q
 alike_of game.Solo p q = SameSolo p q
 alike_of game.LightUp p q = SameLight p q

@@ -25,9 +25,9 @@ abbrev pub Holds : ReadText → Text → Type 0
 Holds line piece = IsKeptText (max_id + 1) line piece
 
 -- the line that this is, with a newline behind it or with the end of the input
-abbrev pub line_of : Bool → Text → Text
-line_of true piece = strip_carriage_return piece
-line_of false piece = piece
+abbrev pub text_of_line : Bool → Text → Text
+text_of_line true piece = strip_carriage_return piece
+text_of_line false piece = piece
 
 -- the line is there with these bytes, or they are too many for an ID
 abbrev pub IsInputLine : Option (Bor (List ℕ)) → List ℕ → Type 0

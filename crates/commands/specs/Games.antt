@@ -10,13 +10,13 @@ use Rattle.commands.specs.PuzzleFacts.{PuzzleFacts}
 use Rattle.commands.specs.SoloFacts.{solo_facts}
 use Rattle.commands.specs.TentsFacts.{tents_facts}
 
-abbrev pub puzzle_of : Game → Type 0
-puzzle_of game.Pattern = Pattern
-puzzle_of game.Solo = Solo
-puzzle_of game.LightUp = Light
-puzzle_of game.Tents = Tents
+abbrev pub puzzle_type : Game → Type 0
+puzzle_type game.Pattern = Pattern
+puzzle_type game.Solo = Solo
+puzzle_type game.LightUp = Light
+puzzle_type game.Tents = Tents
 
-abbrev pub game_of : (g : Game) → PuzzleFacts (puzzle_of g)
+abbrev pub game_of : (g : Game) → PuzzleFacts (puzzle_type g)
 game_of game.Pattern = pattern_facts
 game_of game.Solo = solo_facts
 game_of game.LightUp = light_facts

@@ -9,7 +9,7 @@ use Rattle.maker_core.specs.SoloMaking.{solo_game, SameSolo}
 use Rattle.maker_core.specs.declared.made.Why.TheVariants.{Needed}
 use Rattle.commands.specs.Common.{Stream, Extent, Game, IsPrinted, Light, Solo, IsSoloMade, Kept}
 use Rattle.commands.specs.Answers.{Answer, Asked, Begins, Text, check, code_of, generate, grade, solve}
-use Rattle.commands.specs.Games.{game_of, puzzle_of}
+use Rattle.commands.specs.Games.{game_of, puzzle_type}
 use Rattle.commands.specs.LightFacts.{light_facts}
 use Rattle.commands.specs.PuzzleFacts.{GameFacts, PuzzleFacts}
 use Rattle.commands.specs.SoloFacts.{solo_facts}
@@ -36,7 +36,7 @@ AllowTheSame first second = (input : Text) (answer : Answer)
 
 -- the two texts spell the same puzzles, and each command that names an ID answers the same to both
 pub record AreAlike (game : Game) (id other : Text) : Type 0 where
-  pub puzzles : (p : puzzle_of game)
+  pub puzzles : (p : puzzle_type game)
       → ((game_of game).game.spells id p ↔ (game_of game).game.spells other p)
   pub solved : (budget : ℕ)
       → AllowTheSame (solve game (Some id) budget) (solve game (Some other) budget)

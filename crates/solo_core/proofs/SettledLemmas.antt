@@ -122,39 +122,32 @@ module _ {values n taken : ℕ} {sets rest : List ℕ} (s : IsSettling values se
     few = omega (arith, s.few, most, one);
     settled = λ e.
         let w = one_value (slice_index sets n) low one in
-        let twice : ((v : ℕ) → has_bit more v ≡ true → has_bit taken v ≡ true) → ⊥ = λ inside.
-        absurd (omega (arith, e, s.few, ones_none, ones_or taken 0 more low_t (omega arith) low_m (λ v on. inl (inside v on)))) in
+        let twice : ((v : ℕ) → v ≡ w.0 → v < values → has_bit taken v ≡ true) → ⊥ = λ was. absurd (omega (
+          arith,
+          e,
+          s.few,
+          ones_le_self 0,
+          ones_or taken 0 more low_t (omega arith) low_m (λ v on. inl (elim (or_cases _ _ (sym (is v) ∙ on)) [
+            | inl on ↦ on
+            | inr here ↦ let both = and_parts _ _ here in was v (eqb-true v w.0 (sym (w.2 v) ∙ both.0)) (ltb-true v values both.1)
+          ])),
+        )) in
         elim (cases_Bool (has_bit taken w.0)) [
-          | inl on ↦ absurd (twice (λ v has. elim (or_cases (has_bit taken v) (has_in sets n v && ltb v values) (sym (is v) ∙ has)) [
-            | inl was ↦ was
-            | inr here ↦ rw (eqb-true v w.0 (sym (w.2 v) ∙ (and_parts _ _ here).0)) on
-          ]))
+          | inl on ↦ absurd (twice (λ v at lt. rw at on))
           | inr off ↦ elim (cases_lt w.0 values) [
             | inl inside ↦ settled-more (s.settled (omega (arith, e, s.few, most, one))) w.0 inside w.1 off w.2
                 (λ v. is v ∙ elim (cases_Bool (has_in sets n v)) [
-                  | inl on ↦ let at = eqb-true v w.0 (sym (w.2 v) ∙ on) in let lt : v < values = omega arith in let t = lt-ltb v values lt in grind (arith, nat_tests)
+                  | inl on ↦ let lt = lt-ltb v values (omega (arith, eqb-true v w.0 (sym (w.2 v) ∙ on))) in grind (arith, nat_tests)
                   | inr out ↦ grind (arith, nat_tests)
                 ])
-            | inr outside ↦ absurd (twice (λ v has. elim (or_cases (has_bit taken v) (has_in sets n v && ltb v values) (sym (is v) ∙ has)) [
-              | inl was ↦ was
-              | inr here ↦
-                  let both = and_parts _ _ here in
-                  let at = eqb-true v w.0 (sym (w.2 v) ∙ both.0) in
-                  absurd (omega (arith, ltb-true v values both.1, at))
-            ]))
+            | inr outside ↦ absurd (twice (λ v at lt. absurd (omega arith)))
           ]
         ];
   }
     where
-      ones_none : count_ones 0 ≡ 0
-      ones_none = omega (arith, ones_le_self 0)
-
       most : count_ones more ≤ count_ones taken + count_ones (slice_index sets n)
-      most = ones_or taken (slice_index sets n) more low_t low low_m (λ v on.
-          elim (or_cases (has_bit taken v) (has_in sets n v && ltb v values) (sym (is v) ∙ on)) [
-            | inl was ↦ inl was
-            | inr here ↦ inr (and_parts _ _ here).0
-          ])
+      most = ones_or taken (slice_index sets n) more low_t low low_m
+          (λ v on. elim (or_cases _ _ (sym (is v) ∙ on)) [ inl was ↦ inl was | inr here ↦ inr (and_parts _ _ here).0 ])
 
 -- ---- the values of the settled cells are struck from the others
 abbrev pub drops_settled : ℕ → ℕ → ℕ → Type 0

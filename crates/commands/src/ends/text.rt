@@ -2,7 +2,7 @@
 ghost use Rattle.std.specs.Prelude.{◌≡◌, ◌≤◌, ◌++◌, ◌∷◌, ◌==◌, ◌&&◌, [], ℕ, true, false, length, IfOk, IfErr, OnOk};
 ghost use Rattle.std.specs.Str.Lines.{strip_carriage_return};
 ghost use Rattle.commands.specs.Answers.{Text};
-ghost use Rattle.commands.specs.Batches.{IsInputLine, line_of};
+ghost use Rattle.commands.specs.Batches.{IsInputLine, text_of_line};
 ghost use Rattle.commands.specs.CheckAnswers.{begins_with_line_end, without_returns};
 ghost use Rattle.commands.specs.Texts.{Given, IsKeptText, IsText};
 ghost use Rattle.commands.specs.Stops.{StopsWith};
@@ -94,7 +94,7 @@ impl ReadText {
     /// carriage return before a newline is no part of it.
     pub fn line(&self, has_newline: bool) -> Option<&[u8]>
         ensures { (piece : Text) → IsKeptText LINE_LIMIT self.now piece
-            → IsInputLine result (line_of has_newline piece) }
+            → IsInputLine result (text_of_line has_newline piece) }
     {
         let bytes = self.bytes.as_slice();
         let line = if has_newline {

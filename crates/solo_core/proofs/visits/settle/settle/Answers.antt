@@ -78,15 +78,11 @@ loop-cell-preserved c =
       settling = next.1;
     }
 
--- all cells are copied
-copied : {copy sets : List ℕ} {n : ℕ} → length copy ≡ length sets → length sets ≤ n → ((j : ℕ) → j < n → slice_index copy j ≡ slice_index sets j) → copy ≡ sets
-copied {copy} {sets} long le same = ext_get_or 0 copy sets long (λ j lt. same j (omega (arith, long)))
-
 pub overflow_add-settled : goal.overflow_add-settled
 overflow_add-settled c = let few = c.loop-cell.invariant.settling.few in omega (arith, length-take c.loop-cell.count c.loop-cell.rest, c.loop-cell.invariant.within, c.loop-cell.invariant.room, c.requires.room, few)
 
 pub returns-then-settled-count-clause-copied : goal.returns-then-settled-count-clause-copied
-returns-then-settled-count-clause-copied c = copied c.loop-cell.invariant.as_many (omega arith) c.loop-cell.invariant.copied
+returns-then-settled-count-clause-copied c = let i = c.loop-cell.invariant in ext_get_or 0 _ _ i.as_many (λ j lt. i.copied j (omega (arith, i.as_many)))
 
 pub returns-then-settled-count-clause-settled : goal.returns-then-settled-count-clause-settled
 returns-then-settled-count-clause-settled c =
@@ -100,15 +96,13 @@ loop-cell-2-init c = record { room = c.loop-cell.invariant.room; settled = settl
 
 pub loop-cell-2-preserved : goal.loop-cell-2-preserved
 loop-cell-2-preserved c =
-    let i = c.loop-cell-2.invariant in
-    let k = c.loop-cell-2.cell in
-    record {
-      room = length-set c.loop-cell-2.rest k k ∙ i.room;
-      settled = rw (take_more_set c.loop-cell-2.rest k k (omega (arith, i.room, c.requires.room))) (settled-but i.settled);
+    let i = c.loop-cell-2.invariant in record {
+      room = length-set c.loop-cell-2.rest _ _ ∙ i.room;
+      settled = rw (take_more_set c.loop-cell-2.rest c.loop-cell-2.cell c.loop-cell-2.cell (omega (arith, i.room, c.requires.room))) (settled-but i.settled);
     }
 
 pub returns-clause-copied : goal.returns-clause-copied
-returns-clause-copied c = copied c.loop-cell.invariant.as_many (omega arith) c.loop-cell.invariant.copied
+returns-clause-copied c = let i = c.loop-cell.invariant in ext_get_or 0 _ _ i.as_many (λ j lt. i.copied j (omega (arith, i.as_many)))
 
 pub returns-clause-settled : goal.returns-clause-settled
 returns-clause-settled c = let all : c.loop-cell-2.cell ≡ length c.args.sets.now = omega arith in rw all at c.loop-cell-2.invariant.settled

@@ -25,15 +25,11 @@ loop-i-preserved c =
         | inl e ↦
             let here : slice_index (slice_set sets cell set) (slice_index c.args.rest.now t) ≡ set =
             ap (λ (k : ℕ). slice_index (slice_set sets cell set) k) (ap (slice_index c.args.rest.now) e ∙ sym is) ∙ narrowed-here s.within s.different i.narrowed lt is set in
-            let both = both-bits (slice_index sets cell) others v in
-            let out = c.others_below-others.ensures v in
-            let has = ap (λ bits. has_bit bits v) (sym here) ∙ on in
-            grind (arith, nat_tests)
+            let both = both-bits (slice_index sets cell) others v in let out = c.others_below-others.ensures v in
+            let has = ap (λ bits. has_bit bits v) (sym here) ∙ on in grind (arith, nat_tests)
         | inr ne ↦ i.free t v (omega arith) lr (ap (λ bits. has_bit bits v) (sym (narrowed-before s.within s.different i.narrowed lt is set t (omega arith))) ∙ on)
       ];
-      same = λ off.
-          let e : set ≡ slice_index sets cell = grind (arith, nat_tests) in
-          ap (slice_set sets cell) e ∙ set-get_or sets cell 0 ∙ i.same (grind arith);
+      same = λ off. let e : set ≡ slice_index sets cell = grind (arith, nat_tests) in ap (slice_set sets cell) e ∙ set-get_or sets cell 0 ∙ i.same (grind arith);
     }
 
 -- at the end the whole rest is narrowed
