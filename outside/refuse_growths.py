@@ -124,13 +124,13 @@ def jobs(programs, are_tests, only):
             if only in line:
                 yield line, [programs[0], *line.split()], given, judge
         return
-    for program in programs:
-        listed = subprocess.run([program, "--list"], capture_output=True, check=True, text=True, timeout=RUN_SECONDS).stdout
+    for built in programs:
+        listed = subprocess.run([built, "--list"], capture_output=True, check=True, text=True, timeout=RUN_SECONDS).stdout
         for line in listed.splitlines():
             if line.endswith(": test"):
                 name = line.removesuffix(": test")
                 if only in name:
-                    yield f"{program} {name}", [program, name], "", is_right_test
+                    yield f"{built} {name}", [built, name], "", is_right_test
 
 
 def main():
