@@ -35,13 +35,7 @@ black_words black (suc k) {s} words = (draw_is 100 (black_cells black k s).1 (om
 
 module _ {A : Type 0} (game : CluedGame A) (laws : IsGame game) (budget : ℕ) (all : A) (answer : List ℕ) where
   without_in : (p : A) (place n : ℕ) → IsThinnedFrom game p all → game.clue p place ≡ Some n → IsThinnedFrom game (game.without p place) all
-  without_in p place n w e = record {
-    frame = laws.same_through _ _ _ (laws.without_frame p place n e) w.frame;
-    clues = λ other m had. elim (cases_eq other place) [
-      | inl same ↦ absurd (none-some m (sym (laws.without_it p place) ∙ rw same at had))
-      | inr apart ↦ w.clues other m (sym (laws.others_stay p place other apart) ∙ had)
-    ];
-  }
+  without_in p place n w e = grind (arith, common_steps, cases_eq, none-some, w.clues)
 
   -- what becomes of a clue
   record IsTried (place : ℕ) (p : A) : Type 0 where

@@ -21,13 +21,7 @@ module _ {P : Type 0} (play : PuzzleFacts P) (reading : HasOneReading play.game.
       → play.game.spells id p → verdict_of (play.game.rules p) budget ≡ OneSolution g
       → IsOnlySolution (play.game.solves p) g
       → AllowsSolve play id budget said ↔ (said ≡ one_answer (printed_by play p g))
-  found_alone id p budget g said s verdict only = (allowed, allows)
-    where
-      allowed : AllowsSolve play id budget said → said ≡ one_answer (printed_by play p g)
-      allowed answered = (answer_to reading _ id p s answered).said ∙ ap (verdict_answer (λ h. printed_by play p h)) verdict
-
-      allows : said ≡ one_answer (printed_by play p g) → AllowsSolve play id budget said
-      allows is = grind (arith, common_steps)
+  found_alone id p budget g said s verdict only = grind (arith, common_steps, answer_to)
 
   -- with two solutions no verdict is one
   pub never_one : (id : Text) (p : P) (any : ℕ) (said : Answer) → play.game.spells id p → HasTwo (play.game.rules p)

@@ -19,11 +19,7 @@ module _ {P : Type 0} {play : PuzzleFacts P} {alike : P → P → Type 0} where
   same_differ first second none = grind (arith, common_steps)
 
   handed_differ : {one other : Answer} → HandOutAlike play alike one other → DifferInClues play alike one other
-  handed_differ handed = record {
-    status = ap (λ a. a.status) handed.first_said ∙ sym (ap (λ a. a.status) handed.second_said);
-    others = λ not_fine. absurd (not_fine (ap (λ a. a.status) handed.first_said));
-    made = λ _. handed;
-  }
+  handed_differ handed = grind (arith, common_steps, handed.first_said, handed.second_said)
 
 -- What is made of a size is made of the first filling that passes, and is handed out; two puzzles that are made of one filling
 -- are alike, with one solution. None is made where none passes.

@@ -1,5 +1,5 @@
 -- What is read of an ID, and of a printed grid.
-use Rattle.commands.proofs.Common.{AllByRecursion, AllowsEach, AllowsId, AllowsSolve, Answer, Black, Bool, Err, Extent, Game, GameFacts, HasOneAnswer, HasOneReading, IdFault, IfOk, IsAsShown, IsGraded, IsLight, IsLightCell, IsPrinted, IsRewritten, IsRightGrade, IsSolo, Light, LightCell, List, Memory, NamedRules, None, Numbered, Ok, Option, Pattern, PuzzleFacts, Reply, Result, SizeRead, Solo, Some, Tents, Text, TooLong, White, [], answer_in, ap, ap₂, arith, begins_with_form, both, cases_lt, codes, common_steps, decimal, drop, drop-drop, drop_all, each_below, eqb-true, false, fault_text, game_of, grade_status, grade_text, grid_text, hides_nothing, if◌then◌else◌, inl, inr, length, length-append, light_cell, light_hides, listed_grade, max_id, mul-le-mul_left, mul-le-mul_right, ne_eqb, number_fits, pattern_cell, reading_of, refl, refused, row_text, silence, slice_get, slice_index, solo_cell, solo_extent, solo_n, subst, suc, suc-mul, sym, take, take-append-drop, tent_hides, tents_cell, text_limit, true, without_returns, zero, ℕ, ◌%◌, ◌*◌, ◌++◌, ◌+◌, ◌-◌, ◌/◌, ◌<◌, ◌==◌, ◌↔◌, ◌∙◌, ◌∷◌, ◌≡◌, ◌≢◌, ◌≤◌}
+use Rattle.commands.proofs.Common.{AllByRecursion, AllowsEach, AllowsId, AllowsSolve, Answer, Black, Bool, Err, Extent, Game, GameFacts, HasOneAnswer, HasOneReading, IdFault, IfOk, IsAsShown, IsGraded, IsLight, IsLightCell, IsPrinted, IsRewritten, IsRightGrade, IsSolo, Light, LightCell, List, Memory, NamedRules, None, Numbered, Ok, Option, Pattern, PuzzleFacts, Reply, Result, SizeRead, Solo, Some, Tents, Text, TooLong, White, [], answer_in, ap, ap₂, arith, begins_with_form, both, cases_lt, codes, common_steps, decimal, drop, drop-drop, drop_all, each_below, eqb-true, false, fault_text, game_of, grade_status, grade_text, grid_text, hides_nothing, if◌then◌else◌, inl, inr, length, length-append, light_cell, light_hides, listed_grade, max_id, mul-le-mul_left, mul-le-mul_right, ne_eqb, number_fits, pattern_cell, reading_of, refl, refused, row_text, silence, slice_get, slice_index, solo_cell, solo_extent, solo_n, subst, suc, suc-mul, sym, take, take-append-drop, tent_hides, tents_cell, text_limit, true, without_returns, zero, ℕ, ◌%◌, ◌*◌, ◌++◌, ◌+◌, ◌-◌, ◌<◌, ◌==◌, ◌↔◌, ◌∙◌, ◌∷◌, ◌≡◌, ◌≢◌, ◌≤◌}
 use Rattle.gameid_core.specs.Steps.{Fails}
 use Rattle.std.proofs.Math.Seq.{drop-append_seam, drop-cons}
 use Rattle.std.proofs.lemmas.Fmt.{decimal_digit, decimal_step}
@@ -64,10 +64,7 @@ module _ {P : Type 0} {of : Text → Result P IdFault} {spells : Text → P → 
       → ((cause : Text) → holds (refused cause) (refused cause))
       → ((p : P) → spells id p → first p a → second p b → holds a b)
       → AllowsId (of id) (spells id) first a → AllowsId (of id) (spells id) second b → holds a b
-  both_answers {first} {second} holds id a b refusals answers x y = elim (reading.either id) [
-    | inl s ↦ answers s.0 s.1 (answer_to first id s.0 s.1 x) (answer_to second id s.0 s.1 y)
-    | inr f ↦ rw (refusal_to first id f.0 f.1 x, refusal_to second id f.0 f.1 y) (refusals (fault_text f.0))
-  ]
+  both_answers {first} {second} holds id a b refusals answers x y = grind (arith, common_steps, answer_to, refusal_to)
 
   pub id_once : (id : Text) {allows : P → Answer → Type 0}
       → ((p : P) → spells id p → HasOneAnswer (allows p))
@@ -334,17 +331,7 @@ digit : (d : ℕ) → d < 10 → 48 + d ≢ 13
 digit d small e = absurd (omega arith)
 
 number_text : (n : ℕ) → n < 100 → IsCellText 2 (decimal n)
-number_text n small = elim (cases_lt n 10) [
-  | inl low ↦ subst (IsCellText 2) (sym (decimal_digit n low)) (record { plain = (digit n low, tt); few = omega arith })
-  | inr high ↦ subst (IsCellText 2) (sym (two n high small))
-      (record {
-        plain = (digit (n / 10) (omega arith), (digit (n % 10) (omega arith), tt));
-        few = omega arith;
-      })
-]
-  where
-    two : (n : ℕ) → 10 ≤ n → n < 100 → decimal n ≡ (48 + n / 10) ∷ (48 + n % 10) ∷ []
-    two n low high = decimal_step n low (omega arith) ∙ ap (λ t. t ++ ((48 + n % 10) ∷ [])) (decimal_digit (n / 10) (omega arith))
+number_text n small = grind (arith, common_steps, cases_lt, decimal_digit, digit, decimal, decimal_step)
 
 one_of : (b : Bool) (x y : ℕ) → x ≢ 13 → y ≢ 13 → IsCellText 1 (if b then x ∷ [] else (y ∷ []))
 one_of true x y first second = one_byte first
@@ -355,11 +342,7 @@ pub pattern_cell_text : (p : Pattern) (g : List ℕ) (place : ℕ) → IsCellTex
 pattern_cell_text p g place = grind (arith, common_steps, one_of)
 
 pub tents_cell_text : (p : Tents) (g : List ℕ) (place : ℕ) → IsCellText 1 (tents_cell p g place)
-tents_cell_text p g place = by _
-  where
-    by : (b : Bool) → IsCellText 1 (if b then codes "T" else (if slice_index g place == 1 then codes "^" else codes "."))
-    by true = one_byte (λ e. absurd (omega arith))
-    by false = one_of _ 94 46 (λ e. absurd (omega arith)) (λ e. absurd (omega arith))
+tents_cell_text p g place = grind (arith, common_steps, codes, one_byte, one_of)
 
 pub light_cell_text : (p : Light) → IsLight p → (g : List ℕ) (place : ℕ) → IsCellText 1 (light_cell p g place)
 light_cell_text p ok g place = by _ refl
@@ -374,14 +357,4 @@ light_cell_text p ok g place = by _ refl
 
 pub solo_cell_text : (p : Solo) → IsSolo p → {hides : ℕ → Type 0} (g : List ℕ) → IsAsShown hides (solo_n p) (solo_extent p) g
     → {place : ℕ} → place < solo_n p * solo_n p → IsCellText 3 (solo_cell p g place)
-solo_cell_text p ok {hides} g shown {place} lt = by _
-  where
-    number : IsCellText 2 (decimal (slice_index g place + 1))
-    number =
-        let small = number_fits hides (solo_n p) _ g place shown lt in
-        let few = ok.n_high in
-        number_text _ (omega arith)
-
-    by : (b : Bool) → IsCellText 3 ((if b then [] else codes " ") ++ decimal (slice_index g place + 1))
-    by true = record { plain = number.plain; few = omega (arith, number.few) }
-    by false = record { plain = ((λ e. absurd (omega arith)), number.plain); few = omega (arith, number.few) }
+solo_cell_text p ok {hides} g shown {place} lt = grind (arith, common_steps, decimal, number_fits, number_text, codes, ok.n_high)

@@ -73,22 +73,12 @@ WroteIfAny takes allows = Wrote takes allows (BeginsIfAny allows)
 -- what is told as one thing is told as another that follows from it
 pub says_as : {S : Type 0} {takes : S → Text → S → Type 0} {A B : Answer → Type 0} {s t : S} {status : ℕ} → ((a : Answer) → A a → B a)
     → WroteIfAny takes A s t status → WroteIfAny takes B s t status
-says_as {A} {B} follows told = record {
-  written = told.written;
-  took = told.took;
-  begun = begins_if_any_as A B follows told.begun;
-  whole = λ small. follows _ (told.whole small);
-}
+says_as {A} {B} follows told = grind (arith, common_steps, begins_if_any_as, told.written, told.took, told.begun, told.whole)
 
 -- some answer is allowed
 pub says_some : {S : Type 0} {takes : S → Text → S → Type 0} {A : Answer → Type 0} {s t : S} {status : ℕ} → (a : Answer) × A a
     → WroteIfAny takes A s t status → Wrote takes A (BeginsAnswer A) s t status
-says_some {A} some told = record {
-  written = told.written;
-  took = told.took;
-  begun = begins_some A some told.begun;
-  whole = told.whole;
-}
+says_some {A} some told = grind (arith, common_steps, begins_some, told.written, told.took, told.begun, told.whole)
 
 -- nothing was written
 pub says_nothing : {S : Type 0} {takes : S → Text → S → Type 0} {allows : Answer → Type 0} {s : S} {status : ℕ} → takes s [] s
@@ -135,16 +125,7 @@ module _ {I O : Type 0} {source : sources.Ghosts I} {sink : sinks.Ghosts O}
   -- nothing was read, and what was written may be left on every input
   pub ran_by_telling : {i : I} {o p : O} (tells : Answer → Type 0) {status : ℕ} → source.gives i [] i → ((input : Text) (a : Answer) → tells a → allows input a)
       → Wrote sink.takes tells (BeginsAnswer tells) o p status → Ran source sink allows i i o p status
-  ran_by_telling tells nothing allowed t = record {
-    read = [];
-    written = t.written;
-    gave = nothing;
-    took = t.took;
-    leaves = record {
-      begun = λ input _. begins_as tells (allows input) _ (allowed input) t.begun;
-      whole = λ small input _. allowed input _ (t.whole small);
-    };
-  }
+  ran_by_telling tells nothing allowed t = grind (arith, common_steps, begins_as, t.written, t.took, t.begun, t.whole)
 
   -- the same of an answer that is allowed on every input
   ran_by_reply : {i : I} {o p : O} {a : Answer} {status : ℕ} → source.gives i [] i → ((input : Text) → allows input a)
@@ -177,14 +158,7 @@ module _ {I O : Type 0} {source : sources.Ghosts I} {sink : sinks.Ghosts O}
   pub ran_if_any_by_telling : {i : I} {o p : O} (tells : Answer → Type 0) {status : ℕ}
       → source.gives i [] i → ((input : Text) (a : Answer) → tells a → allows input a)
       → WroteIfAny sink.takes tells o p status → RanIfAny source sink allows i i o p status
-  ran_if_any_by_telling tells nothing allowed t = record {
-    read = [];
-    written = t.written;
-    gave = nothing;
-    took = t.took;
-    begun = λ input _. begins_if_any_as tells (allows input) (allowed input) t.begun;
-    whole = λ small input _. allowed input _ (t.whole small);
-  }
+  ran_if_any_by_telling tells nothing allowed t = grind (arith, common_steps, begins_if_any_as, t.written, t.took, t.begun, t.whole)
 
   -- where each input has an answer, a beginning of one was written
   pub ran_some : HasAnswers allows → {i j : I} {o p : O} {status : ℕ} → RanIfAny source sink allows i j o p status → Ran source sink allows i j o p status

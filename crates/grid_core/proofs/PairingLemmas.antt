@@ -192,12 +192,7 @@ pub IsExplored-step : (joins : ℕ → ℕ → Bool) {rights : ℕ} (mates : Lis
     → IsExplored joins rights mates lefts head → Extends lefts more
     → IsBlocked joins rights mates (get_or lefts head 0) → ReachesOwners joins mates more (get_or more head 0) rights
     → IsExplored joins rights mates more (head + 1)
-IsExplored-step joins mates {more} {head} head_in closed grown blocked owners j r a b h = elim (cases_eq j head) [
-  | inl e ↦
-      let here : IsTrue (joins (get_or more head 0) r) = subst (λ k. IsTrue (joins (get_or more k 0) r)) e h in
-      owners r b here (λ free. blocked r (record { right_in = b; joined = subst (λ l. IsTrue (joins l r)) (grown.kept head head_in) here; free = free }))
-  | inr ne ↦ mate_kept mates grown (closed j r (omega arith) b (subst (λ l. IsTrue (joins l r)) (grown.kept j (omega arith)) h))
-]
+IsExplored-step joins mates {more} {head} head_in closed grown blocked owners j r a b h = grind (arith, cases_eq, mate_kept, grown.kept)
 
 -- what stands while a right is free for the left at `place`
 pub record IsShifting (joins : ℕ → ℕ → Bool) (rights : ℕ) (old mates : MatesView) (frontier : FrontierView) (place right : ℕ) : Type 0 where

@@ -43,14 +43,8 @@ has-turned p p' t e low turned = rw e (fun_ext λ c. fun_ext λ v.
 pub line_of_there : (size : Extent) (rows columns : List ℕ) (line : Line) (v bits : ℕ) → AreWords size rows columns → v < 2
     → ((y x : ℕ) → crosses line bits y x ≡ true → bit_of rows y v x ≡ true) → ((y : ℕ) × (x : ℕ) × (crosses line bits y x ≡ true)) → IsLineIn size line bits
 unfolding crosses
-line_of_there size rows columns (Row k) v bits are lt there some =
-    let w = and_parts _ _ some.2 in
-    let e : some.0 ≡ k = eqb-true _ _ w.0 in
-    ((rw e at (are.within some.0 some.1 v lt (there some.0 some.1 some.2)).0), λ x on. (are.within k x v lt (there k x (and_from _ _ (eq-eqb k k refl) on))).1)
-line_of_there size rows columns (Column k) v bits are lt there some =
-    let w = and_parts _ _ some.2 in
-    let e : some.1 ≡ k = eqb-true _ _ w.0 in
-    ((rw e at (are.within some.0 some.1 v lt (there some.0 some.1 some.2)).1), λ y on. (are.within y k v lt (there y k (and_from _ _ (eq-eqb k k refl) on))).0)
+line_of_there size rows columns (Row k) v bits are lt there some = grind (arith, and_parts, eqb-true, and_from, eq-eqb, are.within)
+line_of_there size rows columns (Column k) v bits are lt there some = grind (arith, and_parts, eqb-true, and_from, eq-eqb, are.within)
 
 room_of_line : (room : ℕ) (size : Extent) (rows columns v : ℕ) (line : Line) (bits : ℕ)
     → size.w ≤ room → size.h ≤ room → rows ≡ 2 * room → columns ≡ 2 * room → v < 2
@@ -109,10 +103,7 @@ taken-lost room p t are there =
 -- the board has no other cells and values than the grid's
 pub has-within : (p : Layers) (room : ℕ) → ArePlanes room p → IsWithin (cells_of p) 2 (has p)
 unfolding has
-has-within p room are = λ c v on.
-    let w = and_parts (ltb v 2) _ on in
-    let within = are.words.within (c / p.size.w) (c % p.size.w) v (ltb-true v 2 w.0) w.1 in
-    (rw (div-add-mod' c p.size.w) at (place-in p.size.w p.size.h (c / p.size.w) (c % p.size.w) within.0 within.1), ltb-true v 2 w.0)
+has-within p room are = grind (arith, and_parts, ltb, ltb-true, div-add-mod', place-in, are.words.within)
 
 taken-fewer : (room : ℕ) (p : Layers) (t : Taking) → ArePlanes room p → IsThere p t
     → total (p.size.w * p.size.h) 2 (without_taking p.size.w (has p) t) < total
@@ -173,15 +164,7 @@ taken room p t rows columns are there turned tall wide =
 
 -- where nothing was taken, and taken in two steps
 pub further-none : (p : Layers) → IsFurther p p
-further-none p = record {
-  same_size = refl;
-  same_room = refl;
-  inside = λ c v on. on;
-  grows = omega arith;
-  same = λ _. refl;
-  lost = λ lt. absurd (omega arith);
-  back = λ m le. refl;
-}
+further-none p = grind (arith)
 
 pub further-more : (p q r : Layers) → IsFurther p q → IsFurther q r → IsFurther p r
 further-more p q r first next = record {

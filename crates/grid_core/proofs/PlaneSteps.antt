@@ -1,9 +1,8 @@
 -- Planes step by step, and their rows as cells by place.
-use Rattle.grid_core.proofs.Common.{AreLinesFilled, ArePlanes, Bool, Candidates, Column, Extent, HasRoomFor, IsExtent, IsFresh, IsLeast, IsLineIn, IsTakingIn, IsThere, Layers, List, None, Option, Row, Some, Taking, all_of, and_comm, and_parts, any_below, ap, arith, better, bit_of, bool_byte, cases_Bool, cases_eq, cases_lt, cells_of, common_steps, cond, count_below, covers, crosses, div-add-mod', div-lt_iff_lt-mul, div-mul-add, eq-eqb, eqb, eqb-true, false, false_from_ne_true, fun_ext, get_or, get_or-map, get_or-replicate, get_or-set_other, get_or-set_same, get_or_past, grid_of, has, has_bit, inl, inr, is_full, layers_of, le-ltb, length, length-map, length-replicate, length-set, lt-ltb, ltb, ltb-true, map, map-set, mod-lt, ne_eqb, no_taking, not, only, pick, refl, replicate, set, slice_index, suc, sym, taking_at, taking_of, total, true, without_taking, zero, ℕ, ◌%◌, ◌&&◌, ◌*◌, ◌+◌, ◌-◌, ◌/◌, ◌<◌, ◌||◌, ◌↔◌, ◌∙◌, ◌≡◌, ◌≤◌, ◌⊎◌}
+use Rattle.grid_core.proofs.Common.{AreLinesFilled, ArePlanes, Bool, Candidates, Extent, HasRoomFor, IsExtent, IsFresh, IsLeast, IsTakingIn, IsThere, Layers, List, None, Option, Row, Some, Taking, all_of, and_comm, and_parts, any_below, ap, arith, better, bit_of, bool_byte, cases_Bool, cases_eq, cases_lt, cells_of, common_steps, cond, count_below, covers, crosses, div-add-mod', div-lt_iff_lt-mul, div-mul-add, eq-eqb, eqb, eqb-true, false, false_from_ne_true, fun_ext, get_or, get_or-map, get_or-replicate, get_or-set_other, get_or-set_same, get_or_past, grid_of, has, has_bit, inl, inr, is_full, layers_of, le-ltb, length, length-map, length-replicate, length-set, lt-ltb, ltb, ltb-true, map, map-set, mod-lt, ne_eqb, no_taking, not, only, pick, refl, replicate, set, slice_index, suc, sym, taking_at, taking_of, total, true, without_taking, zero, ℕ, ◌%◌, ◌&&◌, ◌*◌, ◌+◌, ◌-◌, ◌/◌, ◌<◌, ◌↔◌, ◌∙◌, ◌≡◌, ◌≤◌}
 use Rattle.grid_core.proofs.BoardLemmas.{any_below-none, count_below-bound}
 use Rattle.grid_core.proofs.WordLemmas.{zero-bits}
 use Rattle.grid_core.specs.declared.planes.line.Change.{Change}
-use Rattle.grid_core.specs.declared.planes.line.Line.{Line}
 use Rattle.grid_core.specs.declared.planes.Planes.TheInside.{Inside}
 use Rattle.grid_core.specs.Planes.{IsTurned, number_of}
 use Rattle.std.specs.Global.{Vec}
@@ -70,12 +69,7 @@ pub record AreLinesWritten {W : Type 0} (bits : W → ℕ) (words : List W) (lin
 bit_written : {W : Type 0} (bits : W → ℕ) (words : List W) (lines : ℕ) (word : W) (room line v place n : ℕ) → AreLinesWritten bits words lines word room
     → has_bit (bits word) place ≡ ltb place n → v < 2 → bit_of (map bits words) line v place ≡ (ltb line lines && ltb place n)
 unfolding bit_of
-bit_written bits words lines word room line v place n written first lt =
-    written.is (2 * line + v) place ∙ rw first (ap (λ b. b && ltb place n) (same (cases_lt line lines)))
-  where
-    same : (line < lines) ⊎ (lines ≤ line) → ltb (2 * line + v) (2 * lines) ≡ ltb line lines
-    same (inl low) = lt-ltb (2 * line + v) (2 * lines) (omega arith) ∙ sym (lt-ltb line lines low)
-    same (inr high) = le-ltb (2 * line + v) (2 * lines) (omega arith) ∙ sym (le-ltb line lines high)
+bit_written bits words lines word room line v place n written first lt = grind (arith, ltb, cases_lt, lt-ltb, le-ltb, written.is)
 
 -- words that have places in the first lines alone have none further on; and words of no place have none
 pub none-beyond : (words : List ℕ) (lines : ℕ) → ((line place v : ℕ) → v < 2 → bit_of words line v place ≡ true → line < lines)
@@ -128,11 +122,7 @@ has_read p c v lt = rw (lt-ltb v 2 lt) refl
 
 -- a line of the trail is among those that there is room for
 pub line_room : (room : ℕ) (p : Layers) (k : ℕ) → ArePlanes room p → k < p.len → number_of (taking_at p.takings k).line < room
-line_room room p k are lt = by (taking_at p.takings k).line (taking_at p.takings k).bits (are.takings.takings_in k lt).line_in
-  where
-    by : (line : Line) (bits : ℕ) → IsLineIn p.size line bits → number_of line < room
-    by (Row y) bits within = let low = are.low in omega (arith, low, within.0)
-    by (Column x) bits within = let narrow = are.narrow in omega (arith, narrow, within.0)
+line_room room p k are lt = grind (arith, p.takings, are.takings.takings_in, p.size, are.low, are.narrow)
 
 -- ---- a step taken, and put back
 module _ {W : Type 0} (bits : W → ℕ) (p : Inside W) {room : ℕ}
@@ -289,20 +279,9 @@ other-value : (u v : ℕ) → u < 2 → v < 2 → eqb u (1 - v) ≡ not (eqb u v
 other-value u v lu lv = grind (arith, common_steps, cases_eq u v, cases_eq u (1 - v), eq-eqb, ne_eqb)
 
 same-cell : (w c d : ℕ) → (eqb (d / w) (c / w) && eqb (d % w) (c % w)) ≡ eqb d c
-same-cell w c d = elim (cases_eq d c) [
-  | inl e ↦ rw e (rw (eq-eqb (c / w) (c / w) refl, eq-eqb (c % w) (c % w) refl, eq-eqb c c refl) refl)
-  | inr ne ↦ rw (ne_eqb d c ne) (false_from_ne_true _ (λ on.
-      let parts = and_parts _ _ on in
-      ne (sym (div-add-mod' d w) ∙ rw (eqb-true (d / w) (c / w) parts.0, eqb-true (d % w) (c % w) parts.1) (div-add-mod' c w))))
-]
+same-cell w c d = grind (arith, cases_eq, eq-eqb, ne_eqb, false_from_ne_true, and_parts, div-add-mod', eqb-true)
 
 pub kept-only : (p : Layers) (c v bits : ℕ) → v < 2 → ((x : ℕ) → has_bit bits x ≡ eqb x (c % p.size.w))
     → without_taking p.size.w (has p) (record { line = Row (c / p.size.w); value = 1 - v; bits = bits }) ≡ only (has p) c v
 unfolding without_taking covers crosses only
-kept-only p c v bits lt is = fun_ext λ d. fun_ext λ u. elim (cases_Bool (has p d u)) [
-  | inr off ↦ rw off refl
-  | inl on ↦ rw (on, other-value u v (value-in p d u on) lt, is (d % p.size.w), same-cell p.size.w c d) (by (eqb u v) (eqb d c))
-]
-  where
-    by : (a b : Bool) → (true && not (not a && b)) ≡ (true && (not b || a))
-    by a b = grind (arith, common_steps, cases_Bool a, cases_Bool b)
+kept-only p c v bits lt is = grind (arith, cases_Bool, other-value, value-in, same-cell, eqb)

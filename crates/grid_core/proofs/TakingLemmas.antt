@@ -28,11 +28,7 @@ module _ {S : Type 0} (back : Candidates → S → Candidates) (none : S) where
   -- what is noted gives back what was before it
   pub put_back-noted : (K L : Candidates) (steps : List S) (m n : ℕ) (t : S) → m ≤ n → n < length steps → back L t ≡ K
       → put_back back none L (set steps n t) m (n + 1) ≡ put_back back none K steps m n
-  put_back-noted K L steps m n t le lt same =
-      put_back-last L (set steps n t) m n le
-      ∙ ap (λ (u : S). put_back back none (back L u) (set steps n t) m n) (get_or-set_same steps n t _ lt)
-      ∙ ap (λ (M : Candidates). put_back back none M (set steps n t) m n) same
-      ∙ put_back-past K steps m n n t (omega arith)
+  put_back-noted K L steps m n t le lt same = grind (arith, put_back-last, set, get_or-set_same, put_back-past)
 
   pub put_back-undone : (K : Candidates) (steps : List S) (m n : ℕ) → m < n
       → put_back back none (back K (slice_index_or steps (n - 1) none)) steps m (n - 1) ≡ put_back back none K steps m n

@@ -64,10 +64,7 @@ dropped-bits : (least a p : ℕ) → has_bit a least ≡ true
     → ((q : ℕ) → q < least → has_bit a q ≡ false)
     → (has_bit a p && has_bit (a - 1) p) ≡ (has_bit a p && not (eqb p least))
 dropped-bits zero a zero on before = grind (arith, common_steps, bit_at_lowest a, bit_at_lowest (a - 1))
-dropped-bits zero a (suc p) on before =
-    let odd : a % 2 ≡ 1 = grind (arith, common_steps, bit_at_lowest a) in
-    let half : (a - 1) / 2 ≡ a / 2 = omega arith in
-    rw (next-bit (a - 1) p, next-bit a p, half) (grind (arith, common_steps, cases_Bool))
+dropped-bits zero a (suc p) on before = grind (arith, bit_at_lowest, next-bit, cases_Bool)
 dropped-bits (suc least) a zero on before = rw (before 0 (omega arith)) refl
 dropped-bits (suc least) a (suc p) on before =
     let even : a % 2 ≡ 0 = grind (arith, common_steps, bit_at_lowest a, before 0) in
@@ -121,11 +118,7 @@ pub turned_at : {W : Type 0} (bits : W → ℕ) (words : List W) (i v : ℕ) (ol
     (which : ℕ → Bool) → v < 2 → 2 * i + v < length words → old ≡ get_or words (2 * i + v) old
     → ((p : ℕ) → has_bit (bits new) p ≡ differ (has_bit (bits old) p) (which p))
     → (j u p : ℕ) → u < 2 → bit_of (map bits (set words (2 * i + v) new)) j u p ≡ differ (bit_of (map bits words) j u p) (eqb u v && (eqb j i && which p))
-turned_at bits words i v old new which lv lt read is j u p lu =
-    let at : slice_index (map bits words) (2 * i + v) ≡ bits old = get_or-map bits words (2 * i + v) old 0 lt ∙ ap bits (sym read) in
-    rw (map-set bits words (2 * i + v) new)
-    (word_turned (map bits words) i v (bits new) which lv (omega (arith, length-map words bits))
-    (λ q. is q ∙ ap (λ n. differ (has_bit n q) (which q)) (sym at)) j u p lu)
+turned_at bits words i v old new which lv lt read is j u p lu = grind (arith, get_or-map, map-set, word_turned, length-map)
 
 -- one more crossing line
 pub crossed : (before after first line v crossing : Bool) (all rest left : Bool)

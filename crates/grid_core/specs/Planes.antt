@@ -1,6 +1,6 @@
 -- Boards of two values as planes of bits: for each value the cells that can have it, as a word for each row and one for each
 -- column. The words of line k for the values 0 and 1 are those with the numbers 2 * k and 2 * k + 1.
-use Rattle.std.specs.Prelude.{◌≡◌, ℕ, zero, suc, ◌+◌, ◌*◌, ◌/◌, ◌%◌, ◌<◌, ◌≤◌, Bool, true, false, not, ◌&&◌, ◌==◌, nat_lt, nat_le, List, length, map, slice_index, slice_index_or, if◌then◌else◌}
+use Rattle.std.specs.Prelude.{◌≡◌, ℕ, ◌+◌, ◌*◌, ◌/◌, ◌%◌, ◌<◌, ◌≤◌, Bool, true, false, not, ◌&&◌, ◌==◌, nat_lt, List, length, map, slice_index, slice_index_or}
 use Rattle.std.specs.Global.{Vec}
 use Rattle.grid_core.specs.Candidates.{Candidates, IsInside, put_back, total}
 use Rattle.grid_core.specs.Extent.{Extent, IsExtent}

@@ -156,12 +156,7 @@ pub planted : (p : Light) (order : List ℕ) → ((j : ℕ) → j < length order
 unfolding bulbs_after
 planted p order whites long zero le = planted_none p
 planted p order whites long (suc k) le =
-    let g = bulbs_after p order k in
-    let c = slice_index order k in
-    let before = planted p order whites long k (omega arith) in
-    let on = whites k (omega arith) in
-    cond_both (bulb g c || sees_bulb p g c) _ _ (λ h. IsPlanted p order h (suc k)) (planted_held before)
-    (planted_new p order g k c (bulbs_after-grid p order k).each_cell before refl on (white-in p c long on))
+    grind (arith, common_steps, cond_both, planted_held, planted_new, bulbs_after-grid, white-in, planted p order whites long k (omega arith))
 
 -- ---- the rules
 number_met : {cell : LightCell} (white_cell : Bool) (n : ℕ) → cell ≡ (if white_cell then White else Numbered n) → number_is cell n ≡ true

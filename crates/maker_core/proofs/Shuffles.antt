@@ -1,5 +1,5 @@
 -- Draws, shuffles and orders.
-use Rattle.maker_core.proofs.Common.{All-from_get_or, All-get_or, All-permutation, Chooser, HasWords, IsDistinct-IsPermutation, IsDistinct-from_apart, IsLineOrder, IsOrder, IsPermutation, IsPermutation-refl, IsPermutation-swap, IsPermutation-trans, List, Stream, [], add-one, ap, apart_from_distinct, append_assoc, arith, canon, carry_room, chooser_at, chooser_next, chooser_refill, chunk_of, common_steps, cond_both, div-add-mod', div-mul-add, div_below, elements, eqb, eqb-true, get_or-range_with_len, get_or_append_left, group_added, grow, if_below, last_below, length, length-range_with_len, length_permutation, lines_of_groups, lt-ltb, ltb-false, ltb-true, map, map_more, mod_below, mul-le, narrow_swaps, nat_eq_equiv, nat_le, nat_lt, next_u32, range_with_len, refl, rest_below, rising, rising_more, rising_one, rising_positive, shuffled_order, slice_index, stream_after, subst, suc, sym, take, take_all, true≢false, zero, ℕ, ◌%◌, ◌*◌, ◌++◌, ◌+◌, ◌-◌, ◌/◌, ◌<◌, ◌==◌, ◌^◌, ◌∙◌, ◌∷◌, ◌≡◌, ◌≤◌}
+use Rattle.maker_core.proofs.Common.{All-from_get_or, All-get_or, All-permutation, Chooser, HasWords, IsDistinct-IsPermutation, IsDistinct-from_apart, IsLineOrder, IsOrder, IsPermutation, IsPermutation-swap, IsPermutation-trans, List, Stream, [], add-one, ap, apart_from_distinct, append_assoc, arith, canon, carry_room, chooser_at, chooser_next, chooser_refill, chunk_of, common_steps, cond_both, div-add-mod', div-mul-add, div_below, elements, eqb, eqb-true, get_or-range_with_len, get_or_append_left, group_added, grow, if_below, last_below, length, length-range_with_len, length_permutation, lines_of_groups, lt-ltb, ltb-false, ltb-true, map, map_more, mod_below, mul-le, narrow_swaps, nat_eq_equiv, nat_le, nat_lt, next_u32, range_with_len, refl, rest_below, rising, rising_more, rising_one, rising_positive, shuffled_order, slice_index, stream_after, subst, suc, sym, take, take_all, true≢false, zero, ℕ, ◌%◌, ◌*◌, ◌++◌, ◌+◌, ◌-◌, ◌/◌, ◌<◌, ◌==◌, ◌^◌, ◌∙◌, ◌∷◌, ◌≡◌, ◌≤◌}
 
 -- A shuffled list of numbers is an order of them, and groups of lines that are appended in such an order, each group's lines
 -- in such an order too, are an order of the lines that keeps groups together: a line is its group's number times the size,
@@ -195,15 +195,7 @@ record IsRefilled (n : ℕ) (r : ℕ × ℕ × Stream) : Type 0 where
   words : HasWords r.2
 
 refill_is : (c : Chooser) (s : Stream) → IsChooser c → HasWords s → c.n + 1 < 2 ^ 32 → IsRefilled c.n (chooser_refill c s)
-refill_is c s is words within =
-    let m = c.n + 1 in
-    let chunk = chunk_is m within in
-    let positive : 0 < (chunk_of m).0 = rw chunk.product (rising_positive m (chunk_of m).1 (omega arith)) in
-    let drawn =
-    draw_is (chunk_of m).0 s positive (omega arith) words in
-    cond_both (c.left == 0) _ _ (IsRefilled c.n)
-    (λ none. record { some = chunk.some; room = rw (← chunk.product) drawn.below; words = drawn.words })
-    (λ left. let low : 0 < c.left = grind arith in record { some = low; room = is.room low; words = words })
+refill_is c s is words within = grind (arith, common_steps, chunk_is, chunk_of, rising_positive, draw_is, cond_both, c.left, is.room)
 
 -- an index of at most n, and a chooser for higher ones
 record IsDrawnNext (n : ℕ) (d : ℕ × Chooser × Stream) : Type 0 where
@@ -242,12 +234,7 @@ pub record IsSwapped (items : List ℕ) (k : ℕ) (p : List ℕ × Chooser × St
 pub swaps_are : (items : List ℕ) (s : Stream) → HasWords s → length items < 2 ^ 32 - 1 → (k : ℕ) → k ≤ length items
     → IsSwapped items k (narrow_swaps items (chooser_at 0) s k)
 unfolding narrow_swaps
-swaps_are items s words few zero within = record {
-  permutation = IsPermutation-refl items;
-  bound = refl;
-  chooser = record { room = λ some. rising_positive 1 1 (omega arith) };
-  words = words;
-}
+swaps_are items s words few zero within = grind (arith, common_steps, rising_positive)
 swaps_are items s words few (suc k) within =
     let p : List ℕ × Chooser × Stream = narrow_swaps items (chooser_at 0) s k in
     let before : IsSwapped items k p = swaps_are items s words few k (omega arith) in

@@ -219,12 +219,7 @@ filling_more size k c old new w p n at =
 pub filling_step : {size : Extent} {order : List ℕ} {k c : ℕ} {old new : TentFilling} → 1 ≤ size.w
     → IsOrder (size.w * size.h) order → k < size.w * size.h → c ≡ slice_index order k
     → IsFillingAfter size order k old → IsTentTaken size old c new → IsFillingAfter size order (k + 1) new
-filling_step w ordered lt at before (inl same) = rw same (record {
-  trees_grid = before.trees_grid;
-  tents_grid = before.tents_grid;
-  taken = λ d on. let t = before.taken d on in (t.0, omega (arith, t.1), t.2);
-  solved = before.solved;
-})
+filling_step w ordered lt at before (inl same) = grind (arith, common_steps, before.trees_grid, before.tents_grid, before.taken, before.solved)
 filling_step {size} {k} {c} {old} {new} w ordered lt at before (inr p) =
     filling_more size k c old new before p (new_from size k c old new w ordered lt at before p) at
 
@@ -237,11 +232,7 @@ record IsTakenBy (size : Extent) (old : TentFilling) (c : ℕ) (q : TentFilling 
 
 place_takes : (size : Extent) {filling : TentFilling} (c : ℕ) (s : Stream) → may_have_tent size filling c ≡ true → HasWords s
     → IsTakenBy size filling c (place_tent size filling c s)
-place_takes size {filling} c s may words =
-    let free = free_cells_beside size filling c in
-    let few = beside_few size filling c in
-    let drawn = draw_is (length free) s (grind arith) (omega arith) words in
-    record { taken = inr (placed_is free refl drawn.below may refl refl); words = drawn.words }
+place_takes size {filling} c s may words = grind (arith, common_steps, beside_few, draw_is, placed_is)
 
 cell_takes : (size : Extent) (filling : TentFilling) (c : ℕ) (s : Stream) → HasWords s → IsTakenBy size filling c (take_cell size filling c s)
 cell_takes size filling c s words = cond_both (may_have_tent size filling c) (place_tent size filling c s) (filling, s) (IsTakenBy size filling c)

@@ -106,14 +106,4 @@ module _ (t : Track) (white black count : ℕ) where
   pub shown-kept : {w b : ℕ} (white' black' : ℕ) → IsShownTo w (IsCellShown 0) count → IsShownTo b (IsCellShown 1) count
       → ((k : ℕ) → has_bit white' k ≡ (has_bit w k && has_bit white k)) → ((k : ℕ) → has_bit black' k ≡ (has_bit b k && has_bit black k))
       → AreRowsKept t (sets_by white black count) (sets_by white' black' count)
-  shown-kept white' black' on_white on_black is_white is_black = record {
-    as_many = length-sets white' black' count ∙ sym (length-sets white black count);
-    bits = λ k v lt low. let less : k < count = omega (arith, length-sets white black count) in
-        rw (sets-bit white' black' count k v less low, sets-bit white black count k v less low) (each k v less low);
-  }
-    where
-      each : (k v : ℕ) → k < count → v < 2 → has_bit (word_of white' black' v) k
-          ≡ (has_bit (word_of white black v) k && some_leads t (sets_of (sets_by white black count)) (cell_is k v) 0)
-      each k zero lt low = kept-bits _ _ (is_white k) (on_white.below k lt)
-      each k (suc zero) lt low = kept-bits _ _ (is_black k) (on_black.below k lt)
-      each k (suc (suc v)) lt low = absurd (omega arith)
+  shown-kept white' black' on_white on_black is_white is_black = grind (arith, common_steps, length-sets, sets-bit, kept-bits, on_white.below, on_black.below)

@@ -1,5 +1,5 @@
 -- Lines whose cells have one value at most: one way along the clue tells what is kept.
-use Rattle.pattern_core.proofs.Common.{AreRowsKept, Bool, List, Track, [], and_from, and_parts, any_below, any_below-same, any_cells, ap, arith, cases_Bool, cases_eq, cell_is, common_steps, drop, drop_all, eq-eqb, eqb-true, false, get_or, get_or-map, has_bit, inl, inr, length, length-map, refl, set_of_bits, sets_by, sets_of, some_leads, subst, suc, sym, true, true≢false, zero, ℕ, ◌&&◌, ◌<◌, ◌∙◌, ◌≡◌, ◌≤◌}
+use Rattle.pattern_core.proofs.Common.{AreRowsKept, Bool, List, Track, [], and_from, and_parts, any_below, any_below-same, any_cells, ap, arith, cases_Bool, cases_eq, cell_is, common_steps, drop, drop_all, eq-eqb, eqb-true, false, get_or, get_or-map, has_bit, length, length-map, refl, set_of_bits, sets_by, sets_of, some_leads, subst, suc, sym, true, true≢false, zero, ℕ, ◌&&◌, ◌<◌, ◌∙◌, ◌≡◌, ◌≤◌}
 use Rattle.engine_core.specs.Filling.{Fills, has_value}
 use Rattle.engine_core.specs.FillingLaws.{filling_from_test, has_value_below, test_from_filling}
 use Rattle.pattern_core.proofs.LineWords.{length-sets, sets-bit, word_of}
@@ -18,10 +18,7 @@ met-is {n} {at} {t} {sets} {reached} {both} r all is =
 
 -- a set of one value at most
 one-value : (set u v : ℕ) → (has_bit set 0 && has_bit set 1) ≡ false → u < 2 → v < 2 → has_bit set u ≡ true → has_bit set v ≡ true → u ≡ v
-one-value set u v one lu lv on has = elim (cases_eq u v) [
-  | inl e ↦ e
-  | inr ne ↦ (let both : (has_bit set 0 && has_bit set 1) ≡ true = grind (arith, common_steps, cases_eq u 0, cases_eq v 0, on, has) in absurd (true≢false (sym both ∙ one)))
-]
+one-value set u v one lu lv on has = grind (arith, common_steps, cases_eq, true≢false)
 
 value-of : (set v : ℕ) → v < 2 → has_value (set_of_bits 2 set) v ≡ has_bit set v
 unfolding set_of_bits

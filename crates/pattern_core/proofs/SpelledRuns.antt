@@ -186,11 +186,7 @@ module _ (t : Track) (set : ℕ) (sets : List Set) where
   pub leads_next : (test : List ℕ → Bool) (p : ℕ) → some_leads t ((has_bit set 0 ∷ has_bit set 1 ∷ []) ∷ sets) (λ cells. test (drop 1 cells)) p
       ≡ ahead t set (some_leads t sets test) p
   unfolding ahead can_stay goes_on
-  leads_next test p = leads_on (λ cells. test (drop 1 cells)) p
-      ∙ regroup _ (t.stay p) (t.white p) _ (t.black p) (some_leads t sets test p) (some_leads t sets test (suc p))
-    where
-      regroup : (a s w b k x y : Bool) → ((a && ((s && x) || (w && y))) || (b && (k && y))) ≡ (((a && s) && x) || (((a && w) || (b && k)) && y))
-      regroup a s w b k x y = grind (arith, common_steps, cases_Bool)
+  leads_next test p = grind (arith, common_steps, leads_on, cases_Bool)
 
   never : (p : ℕ) → some_leads t sets (λ f. false) p ≡ false
   unfolding some_leads

@@ -34,13 +34,7 @@ leads_end t p = and-true (t.ends p)
 
 module _ {A : Type 0} (has : A → ℕ → Bool) (t : Track) (sets : List ℕ) (rows : List A) where
   pub last_row : (ends : A) → ((p : ℕ) → has ends p ≡ t.ends p) → length sets < length rows → AreRows has t sets (set rows (length sets) ends) (length sets)
-  last_row ends same room = record {
-    room = omega (arith, length-set rows (length sets) ends);
-    row = λ i p w from upto.
-        let e : i ≡ length sets = omega arith in
-        ap (λ j. has (get_or (set rows (length sets) ends) j w) p) e ∙ ap (λ x. has x p) (get_or-set_same rows (length sets) ends w room) ∙ same p
-        ∙ sym (leads_end t p) ∙ ap (λ s. some_leads t s any_cells p) (sym (drop_all i (sets_of sets) (omega (arith, length-map sets (set_of_bits 2)))));
-  }
+  last_row ends same room = grind (arith, common_steps, length-set, set, get_or-set_same, leads_end, drop_all, length-map)
 
   pub later_rows : {from to : ℕ} → from ≤ to → AreRows has t sets rows from → AreRows has t sets rows to
   later_rows le are = record { room = are.room; row = λ i p w low upto. are.row i p w (omega arith) upto }

@@ -110,11 +110,7 @@ place-at : {W : Type 0} (bits : W → ℕ) (size : Extent) (waits : LinesWaiting
     → ((line : Line) → is_marked bits waits line ≡ (is_same (Column (place % w)) line || is_same (Row (place / w)) line))
     → place % w < size.w → waiting bits size waits j ≡ (eqb j (place % w) || eqb j (w + place / w))
 unfolding waiting
-place-at bits size waits {w} place j same marks low = elim (cases_lt j size.w) [
-  | inl lt ↦ rw (lt-ltb _ _ lt) (marks (Column j) ∙ grind (arith, common_steps, cases_Bool, ne_eqb j (w + place / w)))
-  | inr le ↦ (
-      rw (le-ltb _ _ le) (marks (Row (j - size.w)) ∙ grind (arith, common_steps, cases_Bool, cases_eq j (w + place / w), ne_eqb j (place % w), eq-eqb, ne_eqb)))
-]
+place-at bits size waits {w} place j same marks low = grind (arith, common_steps, cases_lt, lt-ltb, cases_Bool, ne_eqb, le-ltb, cases_eq, eq-eqb)
 
 pub place-rested : {W : Type 0} (bits : W → ℕ) (p : Pattern) (K : Candidates) (waits : LinesWaiting W) {w place : ℕ} → IsExtent p.size → w ≡ p.size.w
     → ((line : Line) → is_marked bits waits line ≡ (is_same (Column (place % w)) line || is_same (Row (place / w)) line))
@@ -142,11 +138,7 @@ waits-line bits size waits line lt = ap (is_marked bits waits) (line-of-house si
 pub none-waits : {W : Type 0} (bits : W → ℕ) (size : Extent) (waits : LinesWaiting W) {room : ℕ} → size.w ≤ room → size.h ≤ room
     → ((line : Line) → number_of line < room → is_marked bits waits line ≡ false) → (h : ℕ) → h < lines_of size → waiting bits size waits h ≡ false
 unfolding waiting
-none-waits bits size waits {room} narrow low none h lt = none (line_of size h) (beside-room (line_of size h) (line-in size h lt))
-  where
-    beside-room : (line : Line) → number_of line < lines_beside size line → number_of line < room
-    beside-room (Column x) less = omega arith
-    beside-room (Row y) less = omega arith
+none-waits bits size waits {room} narrow low none h lt = grind (arith, common_steps, line-in)
 
 -- the number as a house of the line that crosses a line at its k-th cell
 abbrev cross_of : Extent → Line → ℕ → ℕ
@@ -155,27 +147,13 @@ cross_of size (Row y) k = k
 
 module _ (size : Extent) (line : Line) (lt : number_of line < lines_beside size line) where
   crossed-here : (lost : ℕ) {k : ℕ} → k < line_len size line → crossed_by line lost (line_of size (cross_of size line k)) ≡ has_bit lost k
-  crossed-here lost {k} less = go line less
-    where
-      go : (line : Line) → k < line_len size line → crossed_by line lost (line_of size (cross_of size line k)) ≡ has_bit lost k
-      go (Column x) less = let e : (size.w + k) - size.w ≡ k = omega arith in rw (le-ltb (size.w + k) size.w (omega arith), e) refl
-      go (Row y) less = rw (lt-ltb _ _ less) refl
+  crossed-here lost {k} less = grind (arith, common_steps, le-ltb, lt-ltb)
 
   crossed-some : (lost j : ℕ) → crossed_by line lost (line_of size j) ≡ true → (k : ℕ) × (j ≡ cross_of size line k) × (has_bit lost k ≡ true)
-  crossed-some lost j on = go line (cases_lt j size.w) on
-    where
-      go : (line : Line) → (j < size.w) ⊎ (size.w ≤ j) → crossed_by line lost (line_of size j) ≡ true → (k : ℕ) × (j ≡ cross_of size line k) × (has_bit lost k ≡ true)
-      go (Column x) (inl less) on = absurd (false≢true (rw (lt-ltb _ _ less) at on))
-      go (Column x) (inr le) on = (j - size.w, omega arith, rw (le-ltb _ _ le) at on)
-      go (Row y) (inl less) on = (j, refl, rw (lt-ltb _ _ less) at on)
-      go (Row y) (inr le) on = absurd (false≢true (rw (le-ltb _ _ le) at on))
+  crossed-some lost j on = grind (arith, common_steps, cases_lt, false≢true, lt-ltb, le-ltb)
 
   cross-other : {k : ℕ} → k < line_len size line → eqb (cross_of size line k) (line_house size line) ≡ false
-  cross-other {k} less = go line lt less
-    where
-      go : (line : Line) → number_of line < lines_beside size line → k < line_len size line → eqb (cross_of size line k) (line_house size line) ≡ false
-      go (Column x) lt less = ne_eqb (size.w + k) x (λ e. omega arith)
-      go (Row y) lt less = ne_eqb k (size.w + y) (λ e. omega arith)
+  cross-other {k} less = grind (arith, common_steps, eqb, ne_eqb)
 
   -- a cell of the line lies in the line and in the one that crosses it there
   placed : (j k : ℕ) → k < line_len size line → has_place (line_places size j) (cell_of size line k) ≡ (eqb j (line_house size line) || eqb j (cross_of size line k))
@@ -207,10 +185,7 @@ module _ (p : Pattern) (line : Line) (lt : number_of line < lines_beside p.size 
   -- a house is called for by a cell that lost a value and lies in it
   called-is : (j : ℕ) {k : ℕ} → k < length places → called j k ≡ (has_bit lost k && (eqb j house || eqb j (cross_of p.size line k)))
   unfolding has_lost
-  called-is j {k} less =
-      let lk : k < line_len p.size line = omega (arith, long) in let here = cell-at p.size line k lt lk in
-      let differs : not (eqb (counts_of (line_rules p) house K k) (counts_of (line_rules p) house K' k)) ≡ has_bit lost k = sym (is k ∙ rw (lt-ltb _ _ less) refl) in
-      rw (differs, here, placed p.size line lt j k lk) refl
+  called-is j {k} less = grind (arith, common_steps, long, cell-at, eqb, lt-ltb, placed)
 
   called-at : {j k : ℕ} → k < length places → has_bit lost k ≡ true → j ≡ cross_of p.size line k → called j k ≡ true
   called-at {j} {k} less on e = called-is j less ∙ rw (on, eq-eqb _ _ e) (or_right (eqb j house) true refl)

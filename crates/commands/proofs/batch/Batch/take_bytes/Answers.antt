@@ -1,4 +1,6 @@
-use Rattle.commands.proofs.Common.{AllowsTask, Gathered, Text, drop, subst, take, ◌++◌}
+use Rattle.std.proofs.lemmas.Grind.{common_steps}
+use Rattle.std.proofs.Common.{arith}
+use Rattle.commands.proofs.Common.{drop}
 use Rattle.commands.proofs.BatchLemmas.{gathers_up_to, one_further, to_the_end}
 use Rattle.commands.proofs.batch.Batch.take_bytes.Goals as goal
 
@@ -16,11 +18,4 @@ returns-clause-up_to c = λ answers seen written b.
     rw (← to_the_end seen bytes i) (gathers_up_to answers (drop i bytes) (c.loop-byte.invariant.goes_on seen written b))
 
 pub loop-byte-preserved : goal.loop-byte-preserved
-loop-byte-preserved c = record {
-  goes_on = λ seen written b.
-      let i = c.loop-byte.byte-index in
-      let bytes = c.args.bytes.now in
-      subst (λ (t : Text). Gathered (AllowsTask c.args.task) c.take_byte.new.self t written)
-      (one_further seen bytes i c.loop-byte-test.true)
-      (c.in_ok-take_byte.ensures.goes_on (seen ++ take i bytes) written (c.loop-byte.invariant.goes_on seen written b));
-}
+loop-byte-preserved c = grind (arith, common_steps, one_further, c.loop-byte-test.true, c.in_ok-take_byte.ensures.goes_on, c.loop-byte.invariant.goes_on)

@@ -1,3 +1,5 @@
+use Rattle.std.proofs.lemmas.Grind.{common_steps}
+use Rattle.std.proofs.Common.{arith}
 use Rattle.commands.proofs.Common.{sym}
 use Rattle.commands.proofs.GradeLemmas.{one_settled, settled_one, unsettled}
 use Rattle.commands.proofs.grade.grading.is_settled_by.Goals as goal
@@ -8,10 +10,7 @@ returns-in-One-clause-settled g c =
     sym (one_settled (g.met.R.Rules.lawful c.args.rules.now) said.0 said.1)
 
 pub returns-in-One-clause-one : goal.returns-in-One-clause-one
-returns-in-One-clause-one g c = λ _.
-    let said = c.in-One.ensures.verdict in
-    let lawful = g.met.R.Rules.lawful c.args.rules.now in
-    settled_one (record { lawful = lawful; accepted = λ h. ((λ s. s), (λ s. s)) }) (one_settled lawful said.0 said.1)
+returns-in-One-clause-one g c = grind (arith, common_steps, settled_one, one_settled, c.in-One.ensures.verdict, g.met.R.Rules.lawful)
 
 pub returns-in-None-clause-settled : goal.returns-in-None-clause-settled
 returns-in-None-clause-settled g c = unsettled (g.met.R.Rules.lawful c.args.rules.now) c.in-None.ensures.verdict.0 (λ g e. cc)

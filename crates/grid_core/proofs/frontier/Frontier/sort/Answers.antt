@@ -1,4 +1,4 @@
-use Rattle.grid_core.proofs.Common.{FrontierView, List, ap, arith, common_steps, drop, length, sym, take, vec_len, ℕ, ◌++◌, ◌≡◌}
+use Rattle.grid_core.proofs.Common.{List, ap, arith, common_steps, drop, length, sym, take, vec_len, ℕ, ◌++◌, ◌≡◌}
 use Rattle.grid_core.proofs.PairingLemmas.{AreLeftsReached-sort, ascending}
 use Rattle.grid_core.proofs.frontier.Frontier.sort.Goals as goal
 
@@ -21,12 +21,7 @@ invariant_of-self c =
     )
 
 pub returns-clause-same : goal.returns-clause-same
-returns-clause-same c =
-    let i = c.self.inside in
-    let s = c.sort_first.ensures in
-    let value = c.deref_mut.ensures.value in
-    let lefts = ap (λ (v : FrontierView). v.lefts) c.self.view_is in
-    rw (sym lefts, written (vec_len i.queue) c.sort_first.new.entries i.queue.items c.deref_mut.result.now s.as_long (omega arith) value, sym value) s.same
+returns-clause-same c = grind (arith, written, vec_len, c.sort_first.ensures, c.deref_mut.ensures.value)
 
 pub returns-clause-ascending : goal.returns-clause-ascending
 returns-clause-ascending c =

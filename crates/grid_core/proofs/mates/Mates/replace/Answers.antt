@@ -1,15 +1,12 @@
-use Rattle.grid_core.proofs.Common.{List, MatesView, ap, arith, get_or, get_or-take, get_or_default, length, length-take, set, sym, take, take-set-lt, ℕ, ◌<◌, ◌∙◌, ◌≡◌}
+use Rattle.std.proofs.lemmas.Grind.{common_steps}
+use Rattle.grid_core.proofs.Common.{List, MatesView, ap, arith, get_or, get_or-take, get_or_default, length, length-take, set, take, take-set-lt, ℕ, ◌<◌, ◌≡◌}
 use Rattle.grid_core.proofs.PairingLemmas.{mate_in, AreOwners-replace}
 use Rattle.grid_core.proofs.mates.Mates.replace.Goals as goal
 
 -- an entry of the first ones, and its place among them
 entry_of : (xs : List ℕ) {ys : List ℕ} (count : ℕ) {i x : ℕ} → take count xs ≡ ys → i < length ys → x ≡ get_or xs i x
     → (i < count) × (i < length (take count xs)) × (x ≡ get_or (take count xs) i 0)
-entry_of xs count {i} {x} e h is =
-    let long = ap (length {A = ℕ}) e in
-    let inside : i < length (take count xs) = omega arith in
-    let low : i < count = omega (arith, length-take count xs) in
-    (low, inside, is ∙ get_or_default xs i x 0 (omega (arith, length-take count xs)) ∙ sym (get_or-take count xs i 0 low))
+entry_of xs count {i} {x} e h is = grind (arith, length-take, get_or_default, get_or-take)
 
 pub index_mut-requires : goal.index_mut-requires
 index_mut-requires c =
@@ -33,8 +30,4 @@ invariant_of-self c =
     )
 
 pub returns-clause-has : goal.returns-clause-has
-returns-clause-has c =
-    let i = c.self.inside in
-    let e = entry_of i.mates.items i.count (ap (λ (v : MatesView). v.mates) c.self.view_is) c.requires.left_in c.index-old.ensures in
-    rw (take-set-lt i.count i.mates.items c.args.left c.args.right e.0)
-    (ap (λ (v : MatesView). record v { mates = set v.mates c.args.left c.args.right }) c.self.view_is)
+returns-clause-has c = grind (arith, common_steps, entry_of, take-set-lt, set, c.requires.left_in, c.index-old.ensures)

@@ -8,12 +8,4 @@ returns-in-None-clause-short g c _ =
     (omega arith) c.sort.ensures.ascending
 
 pub returns-clause-all : goal.returns-clause-all
-returns-clause-all g c _ =
-    let few = c.loop-self.invariant.2 in
-    let joined = c.loop-self.invariant.3 in
-    record {
-      len = omega arith;
-      in_range = λ l h. joined.in_range l (omega arith);
-      joined = λ l h. joined.joined l (omega arith);
-      own = λ l m a b. c.count.ensures.own l m (omega arith) (omega arith);
-    }
+returns-clause-all g c _ = grind (arith, c.count.ensures.own)

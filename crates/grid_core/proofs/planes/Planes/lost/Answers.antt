@@ -8,11 +8,7 @@ use Rattle.grid_core.proofs.planes.Planes.lost.Goals.{After-index-change, else-c
 
 read : (g : _) (c : After-index-change g)
     → taking_at c.args.self.now.takings c.loop-k.k ≡ taking_of g.W.Word.bits c.index-change.result.now
-read g c =
-    let p = c.self.inside in
-    let long = takings-len _ _ _ _ c.self.invariant.takings in
-    rw (← c.self.view_is) (taking_read g.W.Word.bits p.changes.items c.loop-k.k c.index-change.result.now
-    (omega (arith, long, c.loop-k-test.true, length-map p.changes.items (taking_of g.W.Word.bits))) c.index-change.ensures)
+read g c = grind (arith, takings-len, taking_read, length-map, c.self.invariant.takings, g.W.Word.bits, c.loop-k-test.true, c.index-change.ensures)
 
 pub of-lines-requires : goal.of-lines-requires
 of-lines-requires g c =
@@ -20,10 +16,7 @@ of-lines-requires g c =
     at (line_room g.W.Word.room _ c.loop-k.k c.self.invariant c.loop-k-test.true)
 
 pub loop-k-init : goal.loop-k-init
-loop-k-init g c = record {
-  zeros = λ j y x from lt. absurd (omega (arith, from, lt));
-  ones = λ j y x from lt. absurd (omega (arith, from, lt));
-}
+loop-k-init g c = grind (arith)
 
 pub loop-k-preserved : goal.loop-k-preserved
 loop-k-preserved g c =

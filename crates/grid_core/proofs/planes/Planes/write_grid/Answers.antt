@@ -1,5 +1,5 @@
-use Rattle.grid_core.proofs.Common.{ap, arith, bool_byte, cells_of, subst, ◌*◌, ◌<◌, ◌∙◌, ◌≡◌}
-use Rattle.grid_core.proofs.PlaneSteps.{IsWritten, written-more, written-all}
+use Rattle.grid_core.proofs.Common.{ap, arith, bool_byte, ◌<◌, ◌∙◌, ◌≡◌}
+use Rattle.grid_core.proofs.PlaneSteps.{written-more, written-all}
 use Rattle.grid_core.proofs.planes.Planes.write_grid.Goals as goal
 
 pub loop-x-preserved : goal.loop-x-preserved
@@ -13,9 +13,4 @@ loop-x-preserved g c =
 
 pub returns : goal.returns
 returns g c =
-    let p = c.args.self.now in
-    let end : c.h-y-end.result ≡ p.size.h = rw (c.size-size.ensures.value) at c.h-y-end.ensures.value in
-    let last : c.loop-y.y * p.size.w ≡ cells_of p =
-    (let b = c.loop-y.auto.y-end in let e = c.loop-y-test.false in
-    let y_is : c.loop-y.y ≡ p.size.h = omega arith in rw y_is (omega arith)) in
-    written-all p c.loop-y.grid c.requires.full (subst (IsWritten p c.loop-y.grid) last c.loop-y.invariant)
+    grind (arith, written-all, c.size-size.ensures.value, c.h-y-end.ensures.value, c.loop-y.auto.y-end, c.loop-y-test.false, c.requires.full, c.loop-y.invariant)

@@ -4,11 +4,7 @@ use Rattle.grid_core.proofs.WordLemmas.{turned_at, crossed, fewer_left, turned_n
 use Rattle.grid_core.proofs.planes.turn.turn.Goals as goal
 
 pub loop-own-init : goal.loop-own-init
-loop-own-init g c = record {
-  inside = λ k on. on;
-  across = λ k u j lt. turned_none _ _ _ (has_bit (g.W.Word.bits c.args.bits) k);
-  wide = refl;
-}
+loop-own-init g c = grind (arith, turned_none, g.W.Word.bits)
 
 pub loop-own-smaller : goal.loop-own-smaller
 loop-own-smaller g c =

@@ -1,4 +1,4 @@
-use Rattle.grid_core.proofs.Common.{List, arith, cases_eq, cases_lt, get_or-set_other, get_or-set_same, has_bit, inl, inr, le-ltb, length, length-map, length-set, lt-ltb, ltb, map, map-set, refl, set, slice_index, ℕ, ◌&&◌, ◌*◌, ◌+◌, ◌<◌, ◌∙◌, ◌≡◌}
+use Rattle.grid_core.proofs.Common.{List, arith, cases_eq, cases_lt, get_or-set_other, get_or-set_same, has_bit, inl, inr, le-ltb, length, length-map, length-set, lt-ltb, ltb, map, map-set, set, slice_index, ℕ, ◌&&◌, ◌*◌, ◌+◌, ◌<◌, ◌∙◌, ◌≡◌}
 use Rattle.grid_core.proofs.planes.turn.write_lines.Goals as goal
 use Rattle.grid_core.proofs.planes.turn.write_lines.Goals.{Joined-k-lines, then-k-lines, else-k-lines}
 
@@ -14,10 +14,7 @@ more bits words n end word here lt written is k place less = rw (map-set bits wo
 
 here : (g : _) (c : Joined-k-lines g) (place : ℕ)
     → has_bit (g.W.Word.bits c.if-k-lines.here) place ≡ (ltb c.loop-k.k (2 * c.args.lines) && has_bit (g.W.Word.bits c.args.word) place)
-here g c place = elim c.if-k-lines.branch [
-  | then-k-lines w ↦ rw (w.here-is, lt-ltb c.loop-k.k (2 * c.args.lines) w.if-k-lines.true) refl
-  | else-k-lines w ↦ rw (w.here-is, le-ltb c.loop-k.k (2 * c.args.lines) w.if-k-lines.false) (c.none-none.ensures place)
-]
+here g c place = grind (arith, then-k-lines, lt-ltb, else-k-lines, le-ltb, c.none-none.ensures)
 
 pub loop-k-preserved : goal.loop-k-preserved
 loop-k-preserved g c =
@@ -33,13 +30,4 @@ loop-k-preserved g c =
     }
 
 pub returns-clause-written : goal.returns-clause-written
-returns-clause-written g c = λ k place.
-    let i = c.loop-k.invariant in
-    let e = c.loop-k-test.false in
-    elim (cases_lt k c.loop-k.k) [
-      | inl low ↦ i.written k place low
-      | inr high ↦ rw (
-        i.others k high,
-        le-ltb k (2 * c.args.lines) (omega (arith, high, e, c.max-k-end.ensures)),
-      ) (c.requires.others k place (omega (arith, high, e, c.max-k-end.ensures)))
-    ]
+returns-clause-written g c = grind (arith, cases_lt, le-ltb, c.loop-k.invariant, c.loop-k-test.false, c.max-k-end.ensures, c.requires.others)

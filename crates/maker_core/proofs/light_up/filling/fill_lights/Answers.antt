@@ -1,3 +1,5 @@
+use Rattle.std.proofs.lemmas.Grind.{common_steps}
+use Rattle.std.proofs.Common.{arith}
 use Rattle.maker_core.proofs.Common.{ap, black_cells, light_filling, light_puzzle_of, lights_of, refl, sym, ◌∙◌}
 use Rattle.maker_core.proofs.light_up.filling.fill_lights.Goals as goal
 
@@ -9,8 +11,5 @@ returns-clause-drawn g c =
 
 pub returns-clause-lit : goal.returns-clause-lit
 unfolding light_puzzle_of lights_of
-returns-clause-lit g c = record {
-  black = rw (← c.cells.ensures.value) c.in_ok-black.ensures.grid;
-  bulbs = rw c.in_ok-puzzle.ensures at c.in_ok-bulbs.ensures.grid;
-  solved = rw (← c.in_ok-puzzle.ensures) c.in_ok-bulbs.ensures.solved;
-}
+returns-clause-lit g c =
+    grind (arith, common_steps, c.cells.ensures.value, c.in_ok-black.ensures.grid, c.in_ok-puzzle.ensures, c.in_ok-bulbs.ensures.grid, c.in_ok-bulbs.ensures.solved)

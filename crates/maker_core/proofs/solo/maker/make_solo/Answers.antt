@@ -1,4 +1,6 @@
-use Rattle.maker_core.proofs.Common.{Err, IsThinnedFrom, Some, all_given, ap, refl, rules, solo_game, solo_tries, stream_after_clues, sym, ◌∙◌}
+use Rattle.std.proofs.lemmas.Grind.{common_steps}
+use Rattle.std.proofs.Common.{arith}
+use Rattle.maker_core.proofs.Common.{IsThinnedFrom, Some, all_given, ap, refl, solo_game, stream_after_clues, sym, ◌∙◌}
 use Rattle.maker_core.proofs.FirstTries.{draws_first, leaves_failed}
 use Rattle.maker_core.proofs.SoloSolution.{all_given-only, all_given-found, thinned-solo, only_by_rules}
 use Rattle.maker_core.proofs.solo.maker.make_solo.Goals as goal
@@ -45,7 +47,4 @@ returns-clause-leaves g c =
     (c.in_ok-thin.ensures.drawn ∙ ap (λ q. stream_after_clues solo_game q (g.G.Rng.stream c.first_passing.new.rng)) c.in_ok-puzzle.ensures)
 
 pub returns-in_err-answer-clause-leaves : goal.returns-in_err-answer-clause-leaves
-returns-in_err-answer-clause-leaves g c =
-    let a = c.in_err-answer.ensures in
-    leaves_failed (solo_tries c.args.c c.args.r c.args.x c.args.limits) _ c.in_err-answer.field-0.0 (search rules)
-    (λ e. a.in_range (ap Err e)) (λ e. a.drawn (ap Err e))
+returns-in_err-answer-clause-leaves g c = grind (arith, common_steps, leaves_failed, c.in_err-answer.ensures)

@@ -1,4 +1,6 @@
-use Rattle.maker_core.proofs.Common.{IfOk-weaker, IsOrder, ap, subst, sym, top_row_given, ◌*◌, ◌∙◌, ◌≡◌}
+use Rattle.std.proofs.lemmas.Grind.{common_steps}
+use Rattle.std.proofs.Common.{arith}
+use Rattle.maker_core.proofs.Common.{ap, sym, ◌*◌, ◌∙◌, ◌≡◌}
 use Rattle.maker_core.proofs.solo.x_filling.shuffled_puzzle.Given as given
 use Rattle.maker_core.proofs.solo.x_filling.shuffled_puzzle.Goals as goal
 use Rattle.maker_core.proofs.solo.x_filling.shuffled_puzzle.Goals.{After-from-2}
@@ -11,11 +13,4 @@ top_row_puzzle-requires-clause-numbers g c =
     rw (c.deref.ensures.value, sym (side g (goal.at.top_row_puzzle-requires-clause-numbers g c).After-from-2)) c.in_ok-numbers.ensures.ordered
 
 pub returns : goal.returns
-returns g c =
-    let n = side g (goal.at.returns g c).After-from-2 in
-    IfOk-weaker c.top_row_puzzle.result _ _ (λ puzzle is. record {
-      numbers = c.in_ok-numbers.numbers.items;
-      ordered = subst (λ m. IsOrder m c.in_ok-numbers.numbers.items) n c.in_ok-numbers.ensures.ordered;
-      drawn = rw (← n) c.in_ok-numbers.ensures.drawn;
-      given = is ∙ ap (top_row_given c.args.c c.args.r) c.deref.ensures.value;
-    }) c.top_row_puzzle.ensures
+returns g c = grind (arith, common_steps, side, c.in_ok-numbers.ensures.ordered, c.in_ok-numbers.ensures.drawn, c.deref.ensures.value, c.top_row_puzzle.ensures)

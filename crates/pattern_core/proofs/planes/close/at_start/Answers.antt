@@ -1,3 +1,4 @@
+use Rattle.std.proofs.lemmas.Grind.{common_steps}
 use Rattle.pattern_core.proofs.Common.{Column, Row, arith, refl, ◌+◌, ◌∙◌, ◌≡◌}
 use Rattle.pattern_core.proofs.WaitingLines.{weighed-all, weighed-more}
 use Rattle.pattern_core.proofs.planes.close.at_start.Goals as goal
@@ -9,10 +10,7 @@ loop-x-preserved g c =
     c.waiting_if-waits.ensures (λ off. rw c.from.ensures at (c.may_strike.ensures off)) c.loop-x.invariant
 
 pub loop-y-init : goal.loop-y-init
-loop-y-init g c =
-    let wide : c.w-x-end.result ≡ c.args.rules.now.pattern.size.w = rw c.size-size.ensures at c.w-x-end.ensures.value in
-    let e : c.args.rules.now.pattern.size.w + 0 ≡ c.loop-x.x = omega (arith, c.loop-x-test.false, c.loop-x.auto.x-end, wide) in
-    rw e c.loop-x.invariant
+loop-y-init g c = grind (arith, common_steps, c.size-size.ensures, c.w-x-end.ensures.value, c.loop-x-test.false, c.loop-x.auto.x-end, c.loop-x.invariant)
 
 pub loop-y-preserved : goal.loop-y-preserved
 loop-y-preserved g c =
