@@ -5,6 +5,7 @@ An answer ends where the next one begins, so an empty line is sent behind each p
 """
 import os
 import select
+import signal
 import subprocess
 import threading
 import time
@@ -32,7 +33,7 @@ class Worker:
         self.words = [program(), "solve", *option("budget", budget), "--", known(game)]
         self.seconds, self.lock = seconds, threading.Lock()
         self.child: Optional[subprocess.Popen] = None
-        self.left, self.unread = 0, b""
+        self.owner, self.left, self.unread = 0, 0, b""
 
     def __enter__(self) -> "Worker":
         return self
@@ -61,14 +62,24 @@ class Worker:
 
     def close(self) -> None:
         """Ends the process. A later call begins a new one."""
-        if self.child:
-            self.child.kill()
-            self.child.communicate()
-            self.child = None
+        child, self.child = self.child, None  # first, so that a second Ctrl-C leaves none that is half ended
+        if child and self.owner == os.getpid():
+            child.kill()
+            child.communicate()
+        elif child:  # this is a fork, and the process is of the one that forked
+            child.stdin.close()
+            child.stdout.close()
+            child.returncode = 0
+
+    def __del__(self) -> None:
+        if getattr(self, "child", None):
+            self.close()
 
     def ended(self) -> int:
         """Ends a process that failed, and tells its status; one of its own, if it ends by itself within a moment."""
         child = self.child
+        if child is None:  # another thread closed it
+            return -signal.SIGKILL
         try:
             child.wait(timeout=MOMENT)
         except subprocess.TimeoutExpired:
@@ -91,13 +102,16 @@ class Worker:
             status = self.ended()
             if len(lines) == 1:
                 raise NoAnswer(f"the program ended with status {status}") from None
+        except BaseException:  # as Ctrl-C: what is still to come would be taken for the next answer
+            self.close()
+            raise
         return found
 
     def exchange(self, lines: List[bytes]) -> Iterator[List[str]]:
         """The lines of each answer."""
         content = b"".join(line + b"\n" for line in lines) + b"\n"
         reads = 2 + len(content) // 1024  # at most
-        if not self.child or self.child.poll() is not None or self.left < reads:
+        if not self.child or self.owner != os.getpid() or self.child.poll() is not None or self.left < reads:
             self.begin()
         self.left -= reads
         answer: List[str] = []
@@ -110,9 +124,9 @@ class Worker:
     def begin(self) -> None:
         """Begins a process."""
         self.close()
+        self.owner, self.left, self.unread = os.getpid(), READS, b""
         self.child = subprocess.Popen(self.words, stdin=subprocess.PIPE, stdout=subprocess.PIPE, bufsize=0)
         os.set_blocking(self.child.stdin.fileno(), False)
-        self.left, self.unread = READS, b""
 
     def received(self, rest: memoryview, count: int) -> Iterator[bytes]:
         """Sends bytes, and gives the lines of so many answers and of the one that marks the end.
