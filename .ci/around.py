@@ -24,10 +24,11 @@ CLOSING = re.compile(r"^(\d+) passed, (\d+) failed$", re.M)
 APT_SECONDS = 600
 CORES = os.cpu_count() or 1
 SHOWN = 4000  # letters of what a failed part wrote
+COMMIT = "commit that git can read"
 SCRIPTS = {  # words, and what it needs: programs, modules, or files that were built
     "promises": (["outside/promises.py"], []),
     "documents": (["outside/documents.py"], []),
-    "types": (["outside/search_types.py"], ["rt", "git"]),
+    "types": (["outside/search_types.py"], ["rt", COMMIT]),
     "growths": (["outside/refuse_growths.py", "PROGRAM"], ["cc"]),
     "memory": (["outside/search_memory.py", "PROGRAM"], ["cc"]),
     "hints": (["outside/hints.py", "--count=10", "PROGRAM"], ["node"]),
@@ -53,18 +54,27 @@ def has_module(name, of=sys.executable):
     return not subprocess.run([of, "-c", f"import {name}"], capture_output=True, check=False, cwd=os.sep).returncode
 
 
-def needs():
-    """Package and probe of each line."""
+def is_program(name):
+    """Whether a program can be run; a compiler of C finds the C library's headers too."""
+    words = ["cc", "-E", "-include", "dlfcn.h", "-x", "c", os.devnull]
+    return bool(shutil.which(name)) and (name != "cc" or not subprocess.run(words, capture_output=True, check=False).returncode)
+
+
+def lacking():
+    """The packages of .ci/needs whose probe isn't there. One without a probe goes with the line above it."""
+    debian, is_lacking = shutil.which("python3", path=os.defpath), False
     for line in (HERE / "needs").read_text().splitlines():
         if line and not line.startswith("#"):
-            yield line.split()[:2]
+            package, probe = line.split()[:2]
+            if probe != "-":
+                is_lacking = not (is_program(probe) or debian and probe.isidentifier() and has_module(probe, debian))
+            if is_lacking:
+                yield package
 
 
 def install():
     """What is missing, on a machine that is there for this run alone."""
-    debian = shutil.which("python3", path=os.defpath)
-    missing = [package for package, probe in needs() if not (probe == "-" or shutil.which(probe) or debian
-                                                             and probe.isidentifier() and has_module(probe, debian))]
+    missing = [*lacking()]
     if not missing or os.environ.get("CI") != "true" or os.geteuid() or not shutil.which("apt-get"):
         return
     how = ["apt-get", "-q", "-y", "-o", "Acquire::Retries=1", "-o", "Acquire::http::Timeout=20", "-o", "DPkg::Lock::Timeout=60"]
@@ -92,7 +102,10 @@ class Gate:
         self.built, self.python = self.folder / "library", sys.executable
 
     def is_there(self, probe):
-        return bool(shutil.which(probe) or (self.built / probe).is_file() or probe.isidentifier() and has_module(probe, self.python))
+        if probe == COMMIT:
+            words = ["git", "-C", str(TOP), "rev-parse", "--verify", "HEAD"]
+            return bool(shutil.which("git")) and not subprocess.run(words, capture_output=True, check=False).returncode
+        return bool(is_program(probe) or (self.built / probe).is_file() or probe.isidentifier() and has_module(probe, self.python))
 
     def missing(self, name, probes):
         """Whether something is missing that a part needs, which is then skipped."""

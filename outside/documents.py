@@ -26,7 +26,7 @@ import fifth_game
 
 TOP = pathlib.Path(__file__).resolve().parent.parent
 COLUMNS, WORDS = 130, 25
-HELP_SECONDS = 60
+HELP_SECONDS = 600
 PLACE = re.compile(r"(?:docs|bench|outside|examples|completions|page|crates|\.ci)/[\w./-]*\w")
 NUMBER = re.compile(r"\d[\d,]*")
 NAME = re.compile(r"[A-Za-z_][\w-]*\w")

@@ -23,7 +23,7 @@ SIZES = {"solo": ["3x3", "3x3x", "3x3", "3x4"], "pattern": ["10x10", "15x15"], "
          "tents": ["8x8", "10x10"]}
 KINDS = ["step", "harder", "trial", "guess"]
 REASONER = Path(__file__).with_suffix(".mjs")
-WAIT = 30  # seconds of a run of the program
+WAIT = 600  # seconds of a run of the program
 WHOLE = 5400  # seconds of all
 
 

@@ -56,7 +56,7 @@ BODIES = (
          "        self.givens[place]\n",
          "        let _list = Vec::<u32>::with_capacity(*self.givens.allocator(), 1);\n"),
 )
-CHECK_SECONDS = 300
+CHECK_SECONDS = 1800
 
 
 def fields(text):
