@@ -25,18 +25,17 @@ APT_SECONDS = 600
 CORES = os.cpu_count() or 1
 SHOWN = 4000  # letters of what a failed part wrote
 COMMIT = "commit that git can read"
-SCRIPTS = {  # words, and what it needs: programs, modules, or files that were built
-    "promises": (["outside/promises.py"], []),
-    "documents": (["outside/documents.py"], []),
-    "types": (["outside/search_types.py"], ["rt", COMMIT]),
-    "growths": (["outside/refuse_growths.py", "PROGRAM"], ["cc"]),
-    "memory": (["outside/search_memory.py", "PROGRAM"], ["cc"]),
-    "hints": (["outside/hints.py", "--count=10", "PROGRAM"], ["node"]),
-    "library": (["outside/library.py", "--puzzles=300", "--calls=20000", "--built=BUILT", "PROGRAM"], ["cc", "nm", "libpuzzles.so"]),
-    "module": (["outside/wasm.py", "--engines=node", "--puzzles=300", "--built=BUILT", "PROGRAM"],
+SCRIPTS = {  # words behind python/run, and what it needs: programs, modules, or files that were built
+    "promises": (["tests/tree/promises.py"], []),
+    "documents": (["tests/tree/documents.py"], []),
+    "types": (["tests/tree/search_types.py"], ["rt", COMMIT]),
+    "growths": (["tests/program/refuse_growths.py", "PROGRAM"], ["cc"]),
+    "memory": (["tests/program/search_memory.py", "PROGRAM"], ["cc"]),
+    "library": (["tests/library/library.py", "--puzzles=300", "--calls=20000", "--built=BUILT", "PROGRAM"],
+                ["cc", "nm", "libpuzzles.so"]),
+    "module": (["tests/library/wasm.py", "--engines=node", "--puzzles=300", "--built=BUILT", "PROGRAM"],
                ["cc", "node", "libpuzzles.so", "puzzles.wasm"]),
 }
-CASES = {"python": [], "ids": [], "formats": []}
 SECONDS, TESTS_SECONDS, BUILD_SECONDS = 1200, 4800, 7200  # of the processor; ten times what a part takes
 
 
@@ -105,7 +104,8 @@ class Gate:
         if probe == COMMIT:
             words = ["git", "-C", str(TOP), "rev-parse", "--verify", "HEAD"]
             return bool(shutil.which("git")) and not subprocess.run(words, capture_output=True, check=False).returncode
-        return bool(is_program(probe) or (self.built / probe).is_file() or probe.isidentifier() and has_module(probe, self.python))
+        return bool(is_program(probe) or (self.built / probe).is_file()
+                    or probe.isidentifier() and has_module(probe, self.python))
 
     def missing(self, name, probes):
         """Whether something is missing that a part needs, which is then skipped."""
@@ -114,14 +114,14 @@ class Gate:
             self.skipped.append((name, f"no {lacks[0]}"))
         return lacks
 
-    def run(self, name, seconds, words):
+    def run(self, name, seconds, words, **more):
         """The status of a part and what it wrote. Without a status it was ended, and has failed."""
         log = self.folder / f"{name}.log"
-        told = {"PROGRAM": PROGRAM, "BUILT": self.built}
-        for key, value in told.items():
+        for key, value in {"PROGRAM": PROGRAM, "BUILT": self.built}.items():
             words = [str(word).replace(key, str(value)) for word in words]
         done = subprocess.run([sys.executable, HERE / "part.py", str(seconds), log, *words], cwd=TOP, stdin=subprocess.DEVNULL,
-                              stdout=subprocess.PIPE, text=True, check=False, env={**os.environ, "PYTHONDONTWRITEBYTECODE": "1"})
+                              stdout=subprocess.PIPE, text=True, check=False,
+                              env={**os.environ, "PYTHONDONTWRITEBYTECODE": "1", **more})
         wrote = log.read_text(errors="replace") if log.exists() else ""
         clock, used, why = [*done.stdout.strip().split(" ", 2), "", "", ""][:3]
         said(f"{name}: {clock} s, {used} of the processor")
@@ -138,7 +138,7 @@ class Gate:
         """A check that is one test."""
         if self.missing(name, probes):
             return
-        status, wrote = self.run(name, SECONDS, [self.python, *words])
+        status, wrote = self.run(name, SECONDS, [self.python, "python/run", *words])
         if status == 0:
             self.passed += 1
         elif status is not None:
@@ -156,12 +156,13 @@ class Gate:
                 self.failed.append(f"library/build.py: status {status}")
                 self.show("build", wrote)
 
-    def pytest(self, paths):
+    def pytest(self):
         if not has_module("pytest", self.python):
             self.skipped.append(("tests/", "no pytest (python3-pytest)"))
             return
         words = [self.python, "-m", "pytest", "-q", "-p", "no:cacheprovider", f"--junitxml={self.folder}/pytest.xml",
-                 "--program=PROGRAM", *paths, *(["-n", str(CORES)] if has_module("xdist", self.python) else [])]
+                 "--program=PROGRAM", "--library=BUILT/libpuzzles.so", "--module=BUILT/puzzles.wasm",
+                 *(["-n", str(min(CORES, 8))] if has_module("xdist", self.python) else [])]
         status, wrote = self.run("pytest", TESTS_SECONDS, words)
         if status is None:
             return
@@ -182,40 +183,38 @@ class Gate:
             else:
                 self.passed += 1
 
-    def cases(self, name):
-        """Cases of outside/examples.py, each of which is a test."""
-        status, wrote = self.run(name, TESTS_SECONDS, [self.python, "outside/examples.py", f"--part={name}", "PROGRAM"])
+    def node(self):
+        """The tests of the page's scripts, by the runner that Node has."""
+        if self.missing("tests/page/js", ["node"]):
+            return
+        words = ["node", "--test", *sorted((TOP / "tests/page/js").glob("*.test.mjs"))]
+        status, wrote = self.run("node", TESTS_SECONDS, words, PUZZLES=str(PROGRAM))
+        counts = {name: int(number) for name, number in re.findall(r"^\S+ (pass|fail|cancelled) (\d+)$", wrote, re.M)}
         if status is None:
             return
-        for case, outcome in re.findall(r"^(\w+\.\w+): .*?: (so|NOT SO|skipped, [^(]*\w)", wrote, re.M):
-            if outcome == "so":
-                self.passed += 1
-            elif outcome == "NOT SO":
-                self.failed.append(f"outside/examples.py {case}")
-            else:
-                self.skipped.append((f"outside/examples.py {case}", outcome.removeprefix("skipped, ")))
-        if status and not any(case.startswith("outside/examples.py") for case in self.failed):
-            self.failed.append(f"outside/examples.py --part={name}: status {status}")
-        if status:
-            self.show(name, wrote)
+        self.passed += counts.get("pass", 0)
+        self.skipped += re.findall(r"^ok \d+ - (.*?) # SKIP (.*)$", wrote, re.M)
+        faults = counts.get("fail", 0) + counts.get("cancelled", 0)
+        if status or faults or not counts.get("pass"):
+            self.failed += re.findall(r"^not ok \d+ - (.*)$", wrote, re.M) or ["tests/page/js"] * max(faults, 1)
+            self.show("node", wrote)
 
     def all(self, only):
         """What needs no library beside its building, then the rest, and pytest's tests, which take all cores."""
         self.python = python()
 
         def begin(pool, names):
-            for name in names:
-                if not only or name in only:
-                    yield pool.submit(self.cases, name) if name in CASES else pool.submit(self.script, name, *SCRIPTS[name])
+            return [pool.submit(self.script, name, *SCRIPTS[name]) for name in names if not only or name in only]
         with concurrent.futures.ThreadPoolExecutor(CORES) as pool:
-            building = pool.submit(self.build) if not only or {"library", "module"} & set(only) else None
-            waits = [*begin(pool, [name for name in [*SCRIPTS, *CASES] if name not in ("library", "module")])]
-            if building:
-                building.result()
-            for wait in [*waits, *begin(pool, ["library", "module"])]:
+            waits = [pool.submit(self.build)] if not only or {"library", "module"} & set(only) else []
+            others = begin(pool, [name for name in SCRIPTS if name not in ("library", "module")])
+            others += [pool.submit(self.node)] if not only or "node" in only else []
+            for wait in waits:
+                wait.result()
+            for wait in [*others, *begin(pool, ["library", "module"])]:
                 wait.result()
         if not only or "pytest" in only:
-            self.pytest(["tests"])
+            self.pytest()
 
     def close(self):
         """The closing line and the status."""

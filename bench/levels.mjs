@@ -1,7 +1,7 @@
 #!/usr/bin/env node
 // Makes puzzles of each size and level as the page does, and prints how many came in time: a table for bench/README.md.
 //
-// usage: outside/levels.mjs MODULE [COUNT [GAME [SIZE]]]
+// usage: bench/levels.mjs MODULE [COUNT [GAME [SIZE]]]
 //
 // MODULE is puzzles.wasm, with its loader puzzles.js beside it or in library/. COUNT puzzles are tried of each (default 20). Once
 // more than one of 20 has failed, that pair is left: it has a dash, and the page may not offer it. Where the page's list is another

@@ -1,7 +1,7 @@
 #!/usr/bin/env python3
 """Packs a built program with its manual page, completions, page, examples and documents, for those who have no kit.
 
-    outside/package.py crates/puzzles/out/puzzles FOLDER
+    packaging/package.py crates/puzzles/out/puzzles FOLDER
 
 makes three files in FOLDER, and prints the SHA-256 digest of each and of the program: a Debian package, a tarball for
 ~/.local, and a wheel for pip, which has the program and `import puzzles`. Nothing but Python and git is needed.
@@ -28,11 +28,11 @@ import package_texts as texts
 TOP = pathlib.Path(__file__).resolve().parent.parent
 MACHINES = {62: ("amd64", "x86_64"), 183: ("arm64", "aarch64")}  # as Debian and as Linux name them
 GIT_SECONDS = 60
-COMMANDS = {"book": "book/book.py", "drawing": "book/drawing.py", "collect": "collect/collect.py", "convert": "convert.py",
-            "ids": "ids.py"}
+SOURCES = "python/src/puzzles/"
+COMMANDS = ("book", "collect", "convert", "drawing", "ids", "page", "page-static")
 COMPLETIONS = {"puzzles.bash": "bash-completion/completions/puzzles", "_puzzles": "zsh/vendor-completions/_puzzles",
                "puzzles.fish": "fish/vendor_completions.d/puzzles.fish"}
-SHARE, DOC, MANUAL = "share/puzzles", "share/doc/puzzles", "share/man/man1"
+SHARE, DOC, MANUAL = "share/puzzles/puzzles", "share/doc/puzzles", "share/man/man1"
 
 
 class Wrong(Exception):
@@ -97,26 +97,31 @@ def tracked(folder):
         yield File(name, path.read_bytes(), os.access(path, os.X_OK))
 
 
+def package():
+    """The package `puzzles`, with the page that its server has."""
+    for file in tracked(SOURCES):
+        yield dataclasses.replace(file, name=file.name[len(SOURCES):])
+    for file in [*tracked("page/web"), *tracked("page/alone")]:
+        yield file
+
+
 def tree(one):
     """What is installed below /usr or ~/.local."""
-    pages = list(tracked("page"))
+    inside = list(package())
     yield File("bin/puzzles", one.program, True)
-    yield File("bin/puzzles-page", texts.LAUNCHER.encode(), True)
     yield File(f"{MANUAL}/puzzles.1.gz", squeezed((TOP / "docs/puzzles.1").read_bytes()))
-    for name, script in COMMANDS.items():
-        yield File(f"bin/puzzles-{name}", target=f"../{SHARE}/examples/{script}")
-    for name in ("page", *COMMANDS):
+    for name in COMMANDS:
+        yield File(f"bin/puzzles-{name}", texts.LAUNCHER.format(name=name).encode(), True)
         yield File(f"{MANUAL}/puzzles-{name}.1.gz", target="puzzles.1.gz")
     for name, place in COMPLETIONS.items():
-        yield File(f"share/{place}", (TOP / "completions" / name).read_bytes())
-    for file in [*pages, *tracked("examples")]:
+        yield File(f"share/{place}", (TOP / "packaging/completions" / name).read_bytes())
+    for file in inside:
         yield dataclasses.replace(file, name=f"{SHARE}/{file.name}")
-    for file in [*tracked("docs"), *tracked("README.md"), *tracked("CHANGELOG.md")]:
+    for file in [*tracked("docs"), *tracked("examples"), *tracked("README.md"), *tracked("CHANGELOG.md")]:
         if not file.name.endswith(".1"):
             yield dataclasses.replace(file, name=f"{DOC}/{file.name}")
-    icons = [file.content for file in pages if pathlib.PurePath(file.name).name == "icon.svg"]
-    for icon in icons[:1]:
-        yield File("share/icons/hicolor/scalable/apps/puzzles.svg", icon)
+    icon = next(file.content for file in inside if file.name == "page/web/icon.svg")
+    yield File("share/icons/hicolor/scalable/apps/puzzles.svg", icon)
 
 
 def debian(one, files):
@@ -127,7 +132,7 @@ def debian(one, files):
             File(f"{DOC}/copyright", texts.COPYRIGHT.encode()),
             File("share/applications/puzzles.desktop", texts.DESKTOP.encode()),
             File("share/lintian/overrides/puzzles", texts.OVERRIDES.encode()),
-            File("lib/python3/dist-packages/puzzles", target=f"../../../{SHARE}/examples/puzzles")]
+            File("lib/python3/dist-packages/puzzles", target=f"../../../{SHARE}")]
     files = [dataclasses.replace(file, name=f"usr/{file.name}") for file in [*files, *more]]
     needs = [f"libc6 (>= {'.'.join(map(str, one.elf.glibc))})"] if one.elf.glibc else []
     needs += ["libgcc-s1"] if "libgcc_s.so.1" in one.elf.libraries else []
@@ -145,11 +150,12 @@ def tarball(one, files):
 
 def python(one):
     """The wheel: the program as a script, and the package `puzzles`."""
-    info, folder = f"puzzles-{one.python}.dist-info", "examples/puzzles/"
+    info = f"puzzles-{one.python}.dist-info"
     system = "manylinux_{}_{}".format(*one.elf.glibc) if one.elf.glibc else "manylinux_2_17"
     tag = f"py3-none-{system}_{one.machines[1]}"
     files = [File(f"puzzles-{one.python}.data/scripts/puzzles", one.program, True),
-             *(dataclasses.replace(file, name=f"puzzles/{file.name[len(folder):]}") for file in tracked(folder)),
+             *(dataclasses.replace(file, name=f"puzzles/{file.name}") for file in package()),
+             File(f"{info}/entry_points.txt", texts.entry_points(TOP).encode()),
              File(f"{info}/METADATA", texts.METADATA.format(version=one.python).encode()),
              File(f"{info}/WHEEL", texts.WHEEL.format(tag=tag).encode())]
     return f"puzzles-{one.python}-{tag}.whl", wheel(files, info, one.seconds)

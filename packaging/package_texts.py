@@ -1,14 +1,26 @@
-"""The texts of the packages that outside/package.py makes."""
+"""The texts of the packages that package.py makes."""
+import re
+
 LAUNCHER = """\
-#!/bin/sh
-# Serves the page of `puzzles` on this machine. With --open first a browser shows it too.
-here=$(dirname "$(readlink -f "$0")")
-PATH=$here:$PATH
-page=$here/../share/puzzles/page/serve.py
-[ "$1" = --open ] || exec python3 -B "$page" "$@"
-shift
-python3 -B "$page" "$@" | while read -r address; do echo "$address"; xdg-open "$address"; done
+#!/usr/bin/python3
+import os
+import sys
+
+HERE = os.path.dirname(os.path.dirname(os.path.realpath(__file__)))
+sys.path[:1] = [os.path.join(HERE, "share", "puzzles")]
+sys.argv[1:1] = ["{name}"]
+from puzzles.__main__ import main  # noqa: E402
+
+sys.exit(main())
 """
+
+
+def entry_points(top):
+    """Those of pyproject.toml, as a wheel has them: pip makes the commands of them."""
+    table = (top / "python/pyproject.toml").read_text().partition("[project.scripts]\n")[2].partition("\n\n")[0]
+    return "[console_scripts]\n" + re.sub(r' = "(.*)"', r" = \1", table) + "\n"
+
+
 DESKTOP = """\
 [Desktop Entry]
 Type=Application
@@ -70,7 +82,7 @@ Classifier: Programming Language :: Python :: 3
 Classifier: Typing :: Typed
 Description-Content-Type: text/plain
 
-The program `puzzles`, and the package `puzzles`, which asks it and gives its answers with types. Games are Solo
+The program `puzzles`, its tools for books, collections and the page, and the package `puzzles`, which asks it with types. Games are Solo
 (sudoku), Pattern (nonograms), Light Up (Akari) and Tents, given by their game IDs. Each answer is proved.
 `help(puzzles)` tells the rest.
 """

@@ -11,7 +11,7 @@ from support.trial import wait_until
 
 from support.bench import SECONDS, SOURCES, children, without_progress
 
-pytestmark = pytest.mark.needs("chromium", "pdftotext", "pdftoppm", "pdfinfo", "pdftohtml", "ps")
+pytestmark = [pytest.mark.slow, pytest.mark.needs("chromium", "pdftotext", "pdftoppm", "pdfinfo", "pdftohtml", "ps")]
 BOOK = "puzzles-book"
 CHAPTERS = ["solo:3x3:easy:3", "solo:2x3x:any:2", "pattern:10x10:easy:2", "pattern:10x10:long:1", "lightup:7x7:easy:2", "tents:8x8:medium:2",
             "tents:8x8:hard:1", "solo:3x3:hard:2", "lightup:7x7:hard:1", "solo:3x3:medium:2", "pattern:10x10:medium:1",
@@ -151,7 +151,7 @@ def test_same(bench):
     wait_until(lambda: part.exists() and part.read_bytes().count(b"\n") > 20, SECONDS, "nothing was made")
     run.send_signal(2)
     _, errors = run.communicate(timeout=SECONDS)
-    assert run.returncode == 130 and without_progress(errors) == "book.py: stopped\n", f"status {run.returncode}: {errors}"
+    assert run.returncode == 130 and without_progress(errors) == "puzzles-book: stopped\n", f"status {run.returncode}: {errors}"
     assert not children(run.pid), "something runs on after Ctrl-C"
     assert second.read_bytes() == b"an older book" and part.exists(), "Ctrl-C left another book, or lost what was made"
     with open(part, "ab") as torn:
@@ -213,7 +213,7 @@ def test_faults(bench):
 def full_disk(bench):
     disk = bench.small_disk("disk", "size=24k")
     if not disk:
-        return "NOT TRIED, since this user may not mount: a full disk"
+        pytest.skip("this user may not mount, for a full disk")
     try:
         (disk / "book.pdf").write_bytes(b"old")
         bench.told([BOOK, disk / "book.pdf", "solo:3x3:any:6"], 6, "No space left")
@@ -222,7 +222,6 @@ def full_disk(bench):
         assert {path.name for path in disk.iterdir()} == {"book.pdf", "book.pdf.part"}, "something is left"
     finally:
         bench.unmount(disk)
-    return ""
 
 
 def test_temporary(bench):
@@ -232,7 +231,7 @@ def test_temporary(bench):
     for size, sentence in (("4k", "No space left on device: "), ("2m", "chromium wrote no whole PDF")):
         disk = bench.small_disk("temporary", f"size={size}")
         if not disk:
-            return "NOT TRIED, since this user may not mount"
+            pytest.skip("this user may not mount")
         try:
             bench.told([BOOK, book, chapter], 6, sentence, TMPDIR=str(disk))
             assert book.read_bytes() == b"an older book", "another book in the older one's place"
@@ -242,7 +241,6 @@ def test_temporary(bench):
             bench.unmount(disk)
     _, _, rows = make(bench, "book.pdf", [chapter])
     assert len(rows) == 1 and not book.with_name("book.pdf.part").exists(), "it didn't go on"
-    return ""
 
 
 def test_after(bench):

@@ -5,8 +5,7 @@ import re
 import struct
 import zlib
 
-
-
+import pytest
 
 DRAWING = "puzzles-drawing"
 HEART = [".##.##.", "#######", "#######", ".#####.", "..###..", "...#..."]

@@ -12,7 +12,7 @@ from support.trial import wait_until
 from support.bench import SECONDS, SOURCES
 from book.test_book import BOOK, heights, information, make, pages, squeezed, table, words_of
 
-pytestmark = pytest.mark.needs("chromium", "pdftotext", "pdfinfo", "pdftohtml")
+pytestmark = [pytest.mark.slow, pytest.mark.needs("chromium", "pdftotext", "pdfinfo", "pdftohtml")]
 MILLIMETRE = 72 / 25.4
 TRIMS = {"A4": (210, 297, 15), "letter": (215.9, 279.4, 15), "8x10": (203.2, 254, 14), "6x9": (152.4, 228.6, 12),
          "A5": (148, 210, 12)}

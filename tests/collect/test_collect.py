@@ -124,7 +124,6 @@ def test_killed(bench):
     for other in ("source", "refusal"):
         found = [sqlite3.connect(base).execute(f"SELECT * FROM {other} ORDER BY 1, 2").fetchall() for base in (whole, table)]
         assert found[0] == found[1] and found[0], f"the tables {other} differ"
-    return f"{kills} kills"
 
 
 def test_stopped(bench):
@@ -135,7 +134,7 @@ def test_stopped(bench):
     wait_until(lambda: table.exists() and any(row[3] for row in rows_or_none(table)), SECONDS, "no puzzle was graded")
     run.send_signal(2)
     _, errors = run.communicate(timeout=SECONDS)
-    assert run.returncode == 130 and without_progress(errors) == "collect.py: stopped\n", f"status {run.returncode}: {errors}"
+    assert run.returncode == 130 and without_progress(errors) == "puzzles-collect: stopped\n", f"status {run.returncode}: {errors}"
     graded = sum(bool(row[3]) for row in rows(table))
     assert 0 < graded < 3000, f"{graded} graded at its end"
     add(bench, table, "solo", path)
@@ -178,7 +177,7 @@ def full_disk(bench, texts):
     """A table on a disk of 300 KB keeps what it has, and goes on where there is room."""
     disk = bench.small_disk("disk", "size=300k")
     if not disk:
-        return "NOT TRIED, since this user may not mount: a full disk"
+        pytest.skip("this user may not mount, for a full disk")
     path, table, whole = bench.folder / "ids.txt", bench.folder / "moved.db", bench.folder / "whole.db"
     path.write_text("".join(f"{text}\n" for text in texts))
     words = [COLLECT, "add", "--source", "ids"]
@@ -195,7 +194,6 @@ def full_disk(bench, texts):
     whole.unlink(missing_ok=True)
     bench.good([*words, whole, "solo", path])
     assert rows(table) == rows(whole), "the table that was full is another one"
-    return ""
 
 
 def seconds_of_all():
@@ -232,7 +230,7 @@ def test_by_library(bench, library):
     path.write_text("".join(f"{text}\n" for text in solos(bench, FAST_LINES)))
     bench.told([COLLECT, "add", "--library", path, tables[0], "solo", path], 7, "no library of puzzles")
     if not library.exists():
-        return f"NOT TRIED: no {library}, which library/build.py makes"
+        pytest.skip(f"no {library}")
     tables[0].unlink()
     for table in tables:
         add(bench, table, "solo", path, "--later")
@@ -246,7 +244,6 @@ def test_by_library(bench, library):
         for table, more in zip(tables, (["--library", library], [])):
             add(bench, table, game, path, *more)
         assert rows(tables[0]) == rows(tables[1]), f"another table of {game}"
-    return f"{FAST_LINES:,} in {taken:.1f} s; of the processor {used:.1f}{'' if is_idle else ', beside other work'}"
 
 
 def test_queries(bench):
@@ -292,7 +289,7 @@ def graded_by(bench, words, grades, count):
 def test_on_many_machines(bench, count=2000):
     """the Dask job grades what is open, and its answers are taken in: the table is that of a run on one machine"""
     if not dask.has_dask(DEBIAN):
-        return "NOT TRIED: /usr/bin/python3 has no Dask"
+        pytest.skip("no distributed")
     path, table, new, grades = (bench.folder / name for name in ("ids.txt", "many.db", "new.txt", "grades.txt"))
     texts = solos(bench, count)
     path.write_text("".join(f"{text}\n" for text in texts))
@@ -312,5 +309,4 @@ def test_on_many_machines(bench, count=2000):
         assert found[text] == bench.grade("solo", text), f"{text}: {found[text]}"
     grades.write_text(grades.read_text().rpartition("\n")[0].rpartition("\n")[0] + "\n")
     bench.told(words, 2, f"no answer to line {count}")
-    return f"{count:,} lines in {taken:.0f} s"
 

@@ -10,7 +10,7 @@ number as they run. A test that doesn't meet an edit's function isn't run for it
 and the tests are built for it.
 
 A right body means the same as the one that it replaces, in a function that has no proof of its own: tactics alone prove it.
-They stand in outside/right_bodies, in the form of the others, each with a line `# proves: FUNCTION`. There `rt check` runs. It
+They stand in tests/edits/right_bodies, in the form of the others, each with a line `# proves: FUNCTION`. There `rt check` runs. It
 begins with the libraries that are proved in this tree, and else proves them.
 
 needs: rt, git, cc
@@ -28,12 +28,12 @@ import tempfile
 import threading
 import time
 
-from edits_program import TestProgram
-from edits_tree import TOP, Copy, Edit, Fault, NotBuilt, below, crates_of
+from edits.program import TestProgram
+from edits.tree import TOP, Copy, Edit, Fault, NotBuilt, below, crates_of
 from kit import Failed, Kit
 from puzzles._work import end
 
-RIGHT = TOP / "outside/right_bodies"
+RIGHT = TOP / "tests/edits/right_bodies"
 # The crates whose tests run, for an edit of the program's own two crates and for one of another.
 PROGRAM = ("commands", "puzzles")
 TESTS = {True: ("puzzles", "core_tests"), False: ("core_tests", "puzzles")}

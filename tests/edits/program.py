@@ -7,7 +7,7 @@ import re
 import shutil
 import subprocess
 
-from edits_tree import CHOOSERS_CRATE, TOP, Fault, NotBuilt
+from edits.tree import CHOOSERS_CRATE, TOP, Fault, NotBuilt
 from kit import Failed, run
 
 TARGET = ["--target=x86_64-unknown-linux-gnu", "-march=x86-64-v2"]
@@ -51,7 +51,7 @@ class TestProgram:
             found = text.read_text(encoding="utf-8")
             text.write_text(CHOOSER.sub(lambda it: f"declare {ARGUMENT.sub('', it[1])}", found), encoding="utf-8")
             run(["nice", kit.clang, *TARGET, "-O1", "-fPIE", "-c", "-x", "ir", text, "-o", room / "tests.o"], seconds)
-            run(["cc", "-O1", "-Wall", "-c", TOP / "outside/edits_chosen.c", "-o", chooser], seconds)
+            run(["cc", "-O1", "-Wall", "-c", TOP / "tests/edits/chosen.c", "-o", chooser], seconds)
             run(["cc", "-pie", room / "tests.o", chooser, kit.part("c/libos_c.a"), kit.heap, "-o", self.program], seconds)
         except Failed as fault:
             raise Fault(f"the tests of {crate.name} aren't compiled: {fault}") from None

@@ -1,7 +1,7 @@
 #!/usr/bin/env python3
 """Compares the library for C with the program, call by call, and tries it as a process with threads would use it.
 
-usage: outside/library.py [--puzzles N] [--calls N] [--built FOLDER] PROGRAM
+usage: tests/library/library.py [--puzzles N] [--calls N] [--built FOLDER] PROGRAM
 
 PROGRAM is as `rt run` leaves it: crates/puzzles/out/puzzles. The library is that of FOLDER; else `library/build.py so` proves and
 builds it, into library/out. N puzzles, 1,000 unless it is said, of all games and sizes are solved, checked with a right and with
@@ -22,7 +22,7 @@ import threading
 import time
 
 import library_cases as cases
-import solve as example
+from puzzles import library as example
 from support.words import processor_seconds
 from support.bench import TOP
 
@@ -144,7 +144,7 @@ def harness(tally, file, all_cases, folder):
         if case.call in ("solve", "grade", "check", "generate") and case.game in cases.GAMES and case.text.isprintable()
         and case.text and case.text.isascii() and " " not in case.text and len(case.text) < 60_000]
     link = ["-L", file.parent, f"-Wl,-rpath,{file.parent}", "-lpuzzles", "-lpthread"]
-    compile_c(TOP / "outside" / "library_harness.c", made, link)
+    compile_c(TOP / "tests" / "library" / "library_harness.c", made, link)
     for part, some in (("stack", lines), ("memory", lines[::5])):
         done = subprocess.run([made, part], input="".join(some), capture_output=True, text=True, check=True, timeout=STEP_SECONDS)
         if part == "stack":
@@ -162,7 +162,7 @@ def run_examples(tally, program, file, folder):
     """The examples beside the program."""
     made = folder / "solve"
     compile_c(TOP / "examples" / "library" / "solve.c", made, ["-L", file.parent, f"-Wl,-rpath,{file.parent}", "-lpuzzles"])
-    for words in ([made], [sys.executable, TOP / "examples" / "library" / "solve.py", "--library", file]):
+    for words in ([made],):
         for game, text in cases.OF_EXAMPLES:
             wanted = cases.ask(program, cases.Case("solve", game, text))
             done = subprocess.run([*words, game, text], capture_output=True, check=False, timeout=STEP_SECONDS)

@@ -1,11 +1,11 @@
 #!/usr/bin/env python3
 """Compares the module for browsers with the program, in Node and in browsers.
 
-usage: outside/wasm.py [--puzzles N] [--in-browsers N] [--engines LIST] [--built FOLDER] PROGRAM
+usage: tests/library/wasm.py [--puzzles N] [--in-browsers N] [--engines LIST] [--built FOLDER] PROGRAM
 
 PROGRAM is as `rt run` leaves it: crates/puzzles/out/puzzles. The module is that of FOLDER; else `library/build.py wasm` proves
 and builds it, into library/out. LIST is of node, chromium and firefox, with commas, and else all three. Each makes the calls of
-`outside/library.py` and compares status and text with the program's: Node for N puzzles, 2,000 unless it is said, with five calls
+`tests/library/library.py` and compares status and text with the program's: Node for N puzzles, 2,000 unless it is said, with five calls
 each; a browser for N calls, 1,000 unless it is said. Each also tries: a memory that is full, a call that stops in the module, and
 the calls after both; arguments that are refused; bytes that are no module. It tells the sizes, the stack and the times: those of
 the processor, in all of the engine's processes, and the mean of twenty.
@@ -35,7 +35,7 @@ from support.bench import TOP
 
 BUILD_SECONDS = 4 * 3600
 ENGINE_SECONDS = 1800
-FILES = [TOP / "outside" / "wasm_compare.js", TOP / "outside" / "wasm_page.html", TOP / "library" / "puzzles.js"]
+FILES = [TOP / "tests" / "library" / "wasm_compare.js", TOP / "tests" / "library" / "wasm_page.html", TOP / "library" / "puzzles.js"]
 IN_NODE = """
 import { readFile } from "node:fs/promises";
 import { tried } from "./wasm_compare.js";
@@ -144,7 +144,7 @@ def tell(name, found):
 def wide(room):
     """How many products and shifts of 128 bits are not the compiler's."""
     made = room / "wide"
-    subprocess.run(["cc", "-O2", "-o", made, TOP / "outside" / "wasm_wide.c"], check=True, timeout=ENGINE_SECONDS)
+    subprocess.run(["cc", "-O2", "-o", made, TOP / "tests" / "library" / "wasm_wide.c"], check=True, timeout=ENGINE_SECONDS)
     done = subprocess.run([made], capture_output=True, text=True, check=True, timeout=ENGINE_SECONDS)
     print(f"numbers of 128 bits: {int(done.stdout)} differ", flush=True)
     return int(done.stdout)

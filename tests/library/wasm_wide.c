@@ -2,7 +2,7 @@
 #define __multi3 our_product
 #define __ashlti3 our_left
 #define __lshrti3 our_right
-#include "../library/module/wide.c"
+#include "../../library/module/wide.c"
 
 #include <stdio.h>
 

@@ -1,32 +1,25 @@
-#!/usr/bin/env python3
-"""Tries the packages that outside/package.py makes of a program.
+"""The packages that packaging/package.py makes of a program.
 
-usage: outside/packages.py PROGRAM [CASE..]     PROGRAM as `rt run` leaves it: crates/puzzles/out/puzzles
-
-Each case says what it shows; without names all run. Packages are made twice, of two clones at different paths, of the last
-commit, and compared. Each is installed in a folder of its own, and there README's four examples, the scripts, the page, the
-manual page and `import puzzles` are tried. Nothing is installed on this machine.
-It needs git, and Debian's dpkg, man-db, lintian, desktop-file-utils and python3-pip. Each wait has an end.
-The exit status is 1 if a case fails.
+They are made twice, of two clones at different paths, of the last commit, and compared. Each is installed in a folder of its
+own, and there README's four examples, the tools, the page, the manual page and `import puzzles` are tried.
 """
-import argparse
 import os
 import pathlib
 import re
-import shutil
 import subprocess
 import sys
 import tarfile
-import tempfile
 import time
 import urllib.error
 import urllib.request
 
+import pytest
+
 from support.bench import DEBIAN, TOP, Bench
 from support.trial import wait_until
-from puzzles._work import begin, end
+from puzzles._work import end
 
-TOOLS = ("git", "dpkg", "dpkg-deb", "man", "lintian", "desktop-file-validate")
+pytestmark = [pytest.mark.needs("git", "dpkg", "dpkg-deb"), pytest.mark.xdist_group("packages")]
 PORT = 8031
 ANSWERS = """\
 import puzzles, puzzles.ids
@@ -53,7 +46,7 @@ class Packages:
         for path in top.rglob("*.md"):
             os.utime(path, (1, time.time() - len(name) * 100_000))
         out = self.folder / f"made by {name}"
-        words = [top / "outside/package.py", self.bench.program, out]
+        words = [top / "packaging/package.py", self.bench.program, out]
         self.bench.good(["bash", "-c", f'umask {mask}; exec "$@"', "bash", *words], **more)
         return out
 
@@ -91,6 +84,11 @@ class Packages:
         return next(folder.iterdir())
 
 
+@pytest.fixture(scope="module")
+def packages(program, tmp_path_factory):
+    return Packages(program, tmp_path_factory.mktemp("packages"))
+
+
 def test_same(packages):
     """two clones at different paths, with other times, modes and time zones, make the same bytes"""
     names = [sorted(path.name for path in folder.iterdir()) for folder in packages.clones]
@@ -98,7 +96,7 @@ def test_same(packages):
     for name in names[0]:
         first, second = ((folder / name).read_bytes() for folder in packages.clones)
         assert first == second, f"{name}: other bytes"
-    return ", ".join(f"{name} {(packages.clones[0] / name).stat().st_size // 1000} KB" for name in names[0])
+
 
 
 def examples_of_readme():
@@ -121,8 +119,7 @@ def tried(packages, folder):
     program = (folder / "bin/puzzles").read_bytes()
     assert program == packages.bench.program.read_bytes(), "another program than the one that was packed"
     for script in sorted((folder / "bin").glob("puzzles-*")):
-        if script.name != "puzzles-page":
-            packages.bench.good([script, "--help"], PATH=path)
+        packages.bench.good([script, "--help"], PATH=path)
     return path
 
 
@@ -147,6 +144,7 @@ def got(name):
         return None
 
 
+@pytest.mark.needs("man", "desktop-file-validate")
 def test_debian(packages):
     """dpkg installs the Debian package: examples, scripts, page, manual page, completions and `import puzzles` are there"""
     folder = packages.debian() / "usr"
@@ -166,6 +164,7 @@ def test_debian(packages):
     packages.bench.good(["desktop-file-validate", folder / "share/applications/puzzles.desktop"])
 
 
+@pytest.mark.needs("lintian")
 def test_looked_at(packages):
     """lintian finds nothing in the Debian package but what is for want of a licence"""
     done = packages.bench.run(["lintian", "--no-tag-display-limit", "--allow-root", packages.one("*.deb")])
@@ -198,7 +197,7 @@ def test_wheel(packages):
 
 def test_faults(packages):
     """what is no program, a folder that can't be written, a full disk: one sentence, a status, and nothing half written"""
-    script, bench = TOP / "outside/package.py", packages.bench
+    script, bench = TOP / "packaging/package.py", packages.bench
     text = bench.folder / "text"
     text.write_text("no program")
     bench.told([script, text, bench.folder / "out"], 7, "no ELF program")
@@ -210,40 +209,9 @@ def test_faults(packages):
     bench.told([script, bench.program, bench.folder / "out"], 7, "SOURCE_DATE_EPOCH", SOURCE_DATE_EPOCH="yesterday")
     disk = bench.small_disk("disk", "size=100k")
     if not disk:
-        return "NOT TRIED, since this user may not mount: a full disk"
+        pytest.skip("this user may not mount, for a full disk")
     try:
         bench.told([script, bench.program, disk], 6, "No space left")
         assert not [path for path in disk.iterdir() if path.suffix != ".part"], "something half written has a final name"
     finally:
         bench.unmount(disk)
-    return ""
-
-
-
-def main():
-    form = argparse.ArgumentParser(description=__doc__, formatter_class=argparse.RawDescriptionHelpFormatter)
-    form.add_argument("program", type=pathlib.Path)
-    form.add_argument("cases", nargs="*")
-    asked = form.parse_args()
-    missing = [tool for tool in (*TOOLS, str(asked.program)) if not shutil.which(tool)]
-    if missing:
-        form.error(f"needed and not found: {', '.join(missing)}")
-    cases = {case.__name__: case for case in CASES}
-    if not set(asked.cases) <= set(cases):
-        form.error(f"the cases are {', '.join(cases)}")
-    failed = 0
-    with tempfile.TemporaryDirectory(ignore_cleanup_errors=True) as folder:
-        packages = Packages(asked.program.resolve(), folder)
-        for name in asked.cases or cases:
-            try:
-                noted = cases[name](packages)
-                said = f"so{': ' if noted else ''}{noted or ''}"
-            except (Wrong, OSError, subprocess.SubprocessError, ValueError, LookupError, StopIteration) as fault:
-                failed, said = failed + 1, f"NOT SO: {type(fault).__name__}: {fault}"
-            print(f"{name}: {cases[name].__doc__}: {said}", flush=True)
-    print(f"{len(asked.cases or cases)} cases, {failed} failed")
-    return 1 if failed else 0
-
-
-if __name__ == "__main__":
-    begin(main)

@@ -1,1 +1,1 @@
-"""The parts of outside/page.py."""
+"""The page: its server, and both forms of it in browsers."""

@@ -1,4 +1,4 @@
-"""The page without a server: its folder, and the page in Chromium, with a network and without. For `outside/page.py`."""
+"""The page without a server: its folder, and the page in Chromium, with a network and without."""
 import functools
 import http.server
 import shutil
@@ -9,9 +9,9 @@ import threading
 import time
 from pathlib import Path
 
-from . import browser, player
-from .faults import FIFTH
-from .server import PAGE, WAIT
+from page import browser, player
+from page.faults import FIFTH
+from page.server import RUN, TOP, WAIT
 
 KINDS = {".js": "text/javascript", ".wasm": "application/wasm", ".webmanifest": "application/manifest+json"}
 VISITS = 12
@@ -63,7 +63,7 @@ class Served:
 
 def written(folder, module):
     """What page/static.py says, and its status."""
-    words = [sys.executable, PAGE / "static.py", folder, "--module", module]
+    words = [sys.executable, RUN, "page-static", folder, "--module", module]
     done = subprocess.run(words, capture_output=True, text=True, timeout=WAIT, check=False)
     return done.returncode, done.stdout + done.stderr
 
@@ -141,11 +141,12 @@ def offline(page, server, tally):
 def renewed(page, served, tally, module):
     """Of two versions the page has the one or the other, whole, also while a host has some files of each."""
     with tempfile.TemporaryDirectory() as place:
-        source, fresh = Path(place) / "page", Path(place) / "fresh"
-        shutil.copytree(PAGE, source)
-        table = source / "web" / "languages" / "en.js"
+        source, fresh = Path(place) / "source", Path(place) / "fresh"
+        for name in ("page", "python"):
+            shutil.copytree(TOP / name, source / name)
+        table = source / "page" / "web" / "languages" / "en.js"
         table.write_text(table.read_text().replace(OLD, NEW))
-        subprocess.run([source / "static.py", fresh, "--module", module], check=True, timeout=WAIT, stdout=subprocess.DEVNULL)
+        subprocess.run([sys.executable, source / "python" / "run", "page-static", fresh, "--module", module], check=True, timeout=WAIT, stdout=subprocess.DEVNULL)
         for name in ("service.js", "languages/en.js"):  # first the one file, then the other
             shutil.copyfile(fresh / name, served.folder / name)
             tally.same(f"with a new {name} at first", seen(page, 1), {OLD})

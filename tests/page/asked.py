@@ -1,4 +1,4 @@
-"""What `outside/page.py` asks the page of the folder page/, and what must come. The answers are the worked examples of README.md,
+"""What the tests ask the page's server, and what must come. The answers are the worked examples of README.md,
 docs/FORMATS.md and docs/USE.md; the refusals of the page itself are named in docs/USE.md.
 """
 HARD = "10x10:1/1/1/1/1/1/1/1/1//1/1/1/1/1/1/1/1/1/1"  # 725,758 trials, and no solution

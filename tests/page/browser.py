@@ -1,9 +1,9 @@
-"""Each game as a person plays it in a browser, and texts of any kind in any field. For `outside/page.py`."""
+"""Each game as a person plays it in a browser, and texts of any kind in any field."""
 import contextlib
 import tempfile
 
-from . import comfort, kept, looks, player, speed
-from .driver import By, Keys, Page, WebDriverException
+from page import comfort, kept, looks, player, speed
+from page.driver import By, Keys, Page, WebDriverException
 
 DESK = (1280, 800)
 GAMES = [  # game, size, seed, black cells as the page asks for

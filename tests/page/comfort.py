@@ -1,9 +1,9 @@
 """What makes the page one to stay with, in a browser: broken rules, marks to go back to, notes that go by themselves, colours,
-several cells at once, numbers chosen first, begun puzzles, two tabs, languages, and what is opened. For `outside/page.py`."""
+several cells at once, numbers chosen first, begun puzzles, two tabs, languages, and what is opened."""
 import datetime
 
-from .driver import ActionChains, Keys
-from .player import ROW, SOLO, TENTS, WHITE, drag
+from page.driver import ActionChains, Keys
+from page.player import ROW, SOLO, TENTS, WHITE, drag
 
 SUDOKU = "53..7....6..195....98....6.8...6...34..8.3..17...2...6.6....28....419..5....8..79"
 SUDOKU_ID = "3x3:5_3b7d6b1_9_5d9_8d6a8c6c3_4b8a3b1_7c2c6a6d2_8d4_1_9b5d8b7_9"

@@ -9,7 +9,7 @@ import tempfile
 import time
 from pathlib import Path
 
-from .server import PAGE, WAIT, Server
+from page.server import RUN, WAIT, Server
 
 EXAMPLE = "case \"$*\" in *5x1:1/1//1/1/2.2) printf 'one\\n##.##\\n'; exit 0 ;; esac\n"  # what is asked at the start
 GOOD = {"game": "pattern", "id": "1x1:/"}
@@ -58,24 +58,10 @@ def left(word):
     return found
 
 
-def try_faults(program, tally):
-    with tempfile.TemporaryDirectory() as folder:
-        linked(folder, tally, program)
-        strangers(folder, tally)
-        for body, wanted in BROKEN:
-            broken(folder, tally, body, wanted)
-        turns(folder, tally)
-        shares(folder, tally)
-        wrapped(folder, tally, program)
-        replaced(folder, tally, program)
-    many(program, tally)
-    silent(program, tally)
-
-
 def linked(folder, tally, program):
     """A server that is begun through a link finds its files."""
     link = Path(folder, "link.py")
-    link.symlink_to(PAGE / "serve.py")
+    link.symlink_to(RUN)
     server = Server(program, script=link)
     got = server.send(b"GET / HTTP/1.1\r\nHost: localhost\r\n\r\n", False)
     tally.true("the page through a link", b"<title>puzzles</title>" in got)
@@ -87,7 +73,7 @@ def strangers(folder, tally):
     Path(folder, "liar").write_text("#!/bin/sh\necho one\n")
     Path(folder, "liar").chmod(0o755)
     for stranger in ("/bin/ls", f"{folder}/liar", f"{folder}/nothing"):
-        done = subprocess.run([sys.executable, PAGE / "serve.py", "--port", "0", stranger], capture_output=True, text=True,
+        done = subprocess.run([sys.executable, RUN, "page", "--port", "0", stranger], capture_output=True, text=True,
                               stdin=subprocess.DEVNULL, timeout=WAIT, check=False)
         tally.same(f"over {stranger}", (done.returncode, done.stdout, "Traceback" in done.stderr, stranger in done.stderr),
                    (1, "", False, True))

@@ -1,4 +1,4 @@
-"""The core of both pages in Firefox, by its own protocol (Marionette), since Debian has no driver for it. For `outside/page.py`.
+"""The core of both pages in Firefox, by its own protocol (Marionette), since Debian has no driver for it.
 """
 import json
 import os
@@ -9,7 +9,7 @@ import tempfile
 import time
 from pathlib import Path
 
-from . import alone, browser
+from page import alone, browser
 
 WAIT = 60  # seconds of any wait
 START = 240  # seconds in which it has begun

@@ -1,8 +1,8 @@
-"""What the page keeps, and which links it opens: in a browser, as a player comes and goes. For `outside/page.py`."""
+"""What the page keeps, and which links it opens: in a browser, as a player comes and goes."""
 import time
 
-from .driver import Keys
-from .asked import LONG
+from page.driver import Keys
+from page.asked import LONG
 
 TENTS = "2x2:_c,0,1,1,0"
 SOLO = "2x2:1b4i3_2a"  # the rows 1 2 3 4, 3 4 1 2, 2 1 4 3, 4 3 2 1

@@ -2,8 +2,8 @@
 import base64
 import re
 
-from .driver import Keys
-from .asked import LONG
+from page.driver import Keys
+from page.asked import LONG
 
 PHONE, DESK, LYING = (390, 664), (1280, 900), (844, 390)
 LEAST = 24  # pixels of a cell

@@ -1,9 +1,9 @@
 """A picture of each game, half filled and with a hint: on a desk, on a phone upright and lying; light, dark, and with forced
-colours. For `outside/page.py`, and for a look by a person."""
+colours. For a look by a person."""
 from pathlib import Path
 
-from . import browser
-from .looks import media
+from page import browser
+from page.looks import media
 
 SCREENS = {"desk": browser.DESK, "phone": (390, 664), "lying": (844, 390)}
 LOOKS = {"light": {"prefers_color_scheme": "light"}, "dark": {"prefers_color_scheme": "dark"},

@@ -1,7 +1,7 @@
-"""What a player does on the board in a browser: steps, notes, drawing, mistakes, hints. For `outside/page.py`."""
+"""What a player does on the board in a browser: steps, notes, drawing, mistakes, hints."""
 import time
 
-from .driver import ActionChains, By, Keys
+from page.driver import ActionChains, By, Keys
 
 TENTS = "2x2:_c,0,1,1,0"
 SOLO = "2x2:1b4i3_2a"  # the rows 1 2 3 4, 3 4 1 2, 2 1 4 3, 4 3 2 1

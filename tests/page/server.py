@@ -1,4 +1,4 @@
-"""A server of the page under test, and the count of what was compared. For `outside/page.py`."""
+"""A server of the page under test, and what its longer tests compare."""
 import contextlib
 import http.client
 import json
@@ -8,38 +8,38 @@ import sys
 import time
 from pathlib import Path
 
-PAGE = Path(__file__).resolve().parent.parent.parent / "page"
+TOP = Path(__file__).resolve().parents[2]
+PAGE, RUN = TOP / "page", TOP / "python" / "run"
 WEB = PAGE / "web"
 WAIT = 30  # seconds of any wait for the server
 TRIED = 300  # seconds in which a puzzle has to be made
 
 
 class Tally:
-    """Counts what was compared, and says what differs."""
+    """Gathers what differs in a test of many steps, for one end."""
 
     def __init__(self):
-        self.right, self.wrong = 0, 0
+        self.right, self.faults = 0, []
 
     def same(self, what, got, wanted):
         if got == wanted:
             self.right += 1
         else:
-            self.wrong += 1
-            print(f"FAULT {what[:200]}: {str(got)[:300]}\n  and not {str(wanted)[:300]}", flush=True)
+            self.faults.append(f"{what[:200]}: {str(got)[:300]}\n  and not {str(wanted)[:300]}")
 
     def true(self, what, holds):
         self.same(what, bool(holds), True)
 
 
 class Server:
-    """page/serve.py as a process of its own, on a free port."""
+    """The server as a process of its own, on a free port."""
 
-    def __init__(self, program, *more, before=(), script=PAGE / "serve.py"):
-        words = [*before, sys.executable, script, "--port", "0", *more, program]
+    def __init__(self, program, *more, before=(), script=RUN):
+        words = [*before, sys.executable, script, "page", "--port", "0", *more, program]
         self.child = subprocess.Popen(words, stdin=subprocess.DEVNULL, stdout=subprocess.PIPE, text=True)
         self.url = self.child.stdout.readline().strip()
         if not self.url:
-            sys.exit(2)  # it has said why
+            raise RuntimeError("the server said why it ended")
         self.port = int(self.url.rstrip("/").rpartition(":")[2])
 
     def stop(self):

@@ -1,11 +1,11 @@
-"""What a click on large boards costs, and how many waves the first board takes. For `outside/page.py`.
+"""What a click on large boards costs, and how many waves the first board takes.
 
 Times are those of the processor in the page's thread, so that other work of the machine doesn't count.
 """
 import re
 import statistics
 
-from .server import WEB
+from page.server import WEB
 
 BOARDS = [("lightup", "120x120:" + "z" * 553 + "v", 50), ("pattern", "120x120:" + "/" * 239, 50),
           ("lightup", "30x30:" + "z" * 34 + "p", 8), ("pattern", "30x30:" + "/" * 59, 8),

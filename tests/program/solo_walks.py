@@ -13,7 +13,7 @@ import subprocess
 import sys
 import time
 
-from crossings import by_fillings, lines_and_blocks, one_filling
+from program.crossings import by_fillings, lines_and_blocks, one_filling
 from support import words
 from puzzles._work import begin
 

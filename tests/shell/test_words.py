@@ -2,7 +2,7 @@
 import re
 import shutil
 
-import documents
+from tree import documents
 
 import pytest
 

@@ -1,14 +1,23 @@
-"""What the cases of outside/examples.py share: a folder, the program, and calls of the examples with a bound on each."""
+"""What tests share: a folder, the program and the tools as they are installed, and calls with a bound on each."""
 import os
 import pathlib
 import re
 import shutil
 import subprocess
+import sys
 
 from support.trial import Wrong, expect
 
 TOP = pathlib.Path(__file__).resolve().parents[2]
-EXAMPLES = TOP / "examples"
+EXAMPLES, SOURCES = TOP / "examples", TOP / "python" / "src"
+TOOLS = ("book", "collect", "convert", "drawing", "ids")
+LAUNCHER = """#!{python}
+import sys
+sys.argv[1:1] = ["{tool}"]
+sys.path[:1] = ["{sources}"]
+from puzzles.__main__ import main
+sys.exit(main())
+"""
 SECONDS = 600  # for a call
 LETTERS = "0123456789abcdefghijklmnopqrstuvwxyzB_./,:x#-"
 PROGRESS = re.compile(r"\w+ \[#*\.*\] ")
@@ -33,12 +42,24 @@ class Bench:
         self.program = self.folder / "bin" / "puzzles"
         self.program.parent.mkdir()
         shutil.copy(program, self.program)
+        self.tools = {f"puzzles-{tool}": self.launcher(tool) for tool in TOOLS}
         self.environment = {**os.environ, "PATH": f"{self.program.parent}:{os.environ['PATH']}", "HOME": str(self.folder),
                             "LC_ALL": "C.UTF-8"}
 
+    def launcher(self, tool):
+        """What a package installs as puzzles-TOOL."""
+        path = self.program.with_name(f"puzzles-{tool}")
+        path.write_text(LAUNCHER.format(python=sys.executable, tool=tool, sources=SOURCES))
+        path.chmod(0o755)
+        return path
+
+    def line(self, words):
+        """A command line, with the tool's whole path, whatever PATH says."""
+        return [self.tools.get(words[0], words[0]), *words[1:]]
+
     def run(self, words, given="", stdout=subprocess.PIPE, seconds=SECONDS, **more):
         try:
-            done = subprocess.run(words, input=given, stdout=stdout, stderr=subprocess.PIPE, encoding="utf-8",
+            done = subprocess.run(self.line(words), input=given, stdout=stdout, stderr=subprocess.PIPE, encoding="utf-8",
                                   errors="surrogateescape", cwd=self.folder, env={**self.environment, **more}, timeout=seconds,
                                   check=False)
         except subprocess.TimeoutExpired:
@@ -69,9 +90,9 @@ class Bench:
 
     def written(self, game, lines):
         """What ids.py writes for each line."""
-        done = subprocess.run([EXAMPLES / "ids.py", game], input=b"".join(line + b"\n" for line in lines), capture_output=True,
+        done = subprocess.run([self.tools["puzzles-ids"], game], input=b"".join(line + b"\n" for line in lines), capture_output=True,
                               timeout=SECONDS, env=self.environment, check=False)
-        expect(done.returncode in (0, 2) and not done.stderr, f"ids.py {game}: status {done.returncode}: {done.stderr[-300:]}")
+        expect(done.returncode in (0, 2) and not done.stderr, f"puzzles-ids {game}: status {done.returncode}: {done.stderr[-300:]}")
         return done.stdout.decode().splitlines()
 
     def answers(self, game, lines):
@@ -87,7 +108,7 @@ class Bench:
 
     def start(self, words, **more):
         """A process in a session of its own."""
-        return subprocess.Popen(words, stdin=subprocess.DEVNULL, stdout=subprocess.PIPE, stderr=subprocess.PIPE, encoding="utf-8",
+        return subprocess.Popen(self.line(words), stdin=subprocess.DEVNULL, stdout=subprocess.PIPE, stderr=subprocess.PIPE, encoding="utf-8",
                                 cwd=self.folder, env=self.environment, start_new_session=True, **more)
 
     def small_disk(self, name, words):

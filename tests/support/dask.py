@@ -10,7 +10,7 @@ import subprocess
 from support.trial import wait_until
 from puzzles._work import end
 
-JOB = pathlib.Path(__file__).resolve().parents[1] / "dask" / "job.py"
+JOB = pathlib.Path(__file__).resolve().parents[2] / "examples" / "dask" / "job.py"
 START_SECONDS = 120  # for a scheduler or a worker
 JOB_SECONDS = 600  # for a job
 

@@ -2,7 +2,7 @@
 import time
 
 
-class Wrong(Exception):
+class Wrong(AssertionError):
     """What a case found."""
 
 

@@ -22,12 +22,12 @@ import re
 import subprocess
 import sys
 
-import fifth_game
+from tree import fifth_game
 
 TOP = pathlib.Path(__file__).resolve().parents[2]
 COLUMNS, WORDS = 130, 25
 HELP_SECONDS = 600
-PLACE = re.compile(r"(?:docs|bench|outside|examples|completions|page|crates|\.ci)/[\w./-]*\w")
+PLACE = re.compile(r"(?:docs|bench|tests|packaging|python|examples|page|crates|\.ci)/[\w./-]*\w")
 NUMBER = re.compile(r"\d[\d,]*")
 NAME = re.compile(r"[A-Za-z_][\w-]*\w")
 

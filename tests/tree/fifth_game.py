@@ -75,7 +75,7 @@ def faults():
     """What isn't so in the document."""
     text = DOCUMENT.read_text(encoding="utf-8")
     if text != with_counts(text):
-        yield f"docs/{DOCUMENT.name}: numbers that aren't those of the tree: outside/fifth_game.py --write mends them"
+        yield f"docs/{DOCUMENT.name}: numbers that aren't those of the tree: python/run tests/tree/fifth_game.py --write mends them"
     yield from left_out()
 
 

@@ -30,7 +30,7 @@ import re
 import signal
 import sys
 
-from contracts import (TOP, crates, defined, functions, ghosts, imports, is_member, is_private,
+from tree.contracts import (TOP, crates, defined, functions, ghosts, imports, is_member, is_private,
                        names, public_calls, public_clauses)
 
 MOST_BODIES = 3

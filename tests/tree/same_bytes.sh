@@ -1,8 +1,8 @@
 #!/usr/bin/env bash
 # Shows that two clones of one commit, at different paths, build the same program, library and module for browsers.
 #
-# usage: outside/same_bytes.sh                clones this repository twice, proves and builds both, and compares
-#        outside/same_bytes.sh ONE OTHER      compares what is there: two clones that were built, or two files
+# usage: tests/tree/same_bytes.sh                clones this repository twice, proves and builds both, and compares
+#        tests/tree/same_bytes.sh ONE OTHER      compares what is there: two clones that were built, or two files
 #
 # The first form takes what two first builds take (bench/README.md), or less if `rt` finds what another checkout kept. It needs
 # the kit on the path and what library/build.py needs, and builds the last commit. In the second form two clones have to be of
@@ -53,7 +53,7 @@ case ${1-} in -h | --help) help; exit 0 ;; esac
 [ $# -eq 0 ] || [ $# -eq 2 ] || { help >&2; exit 2; }
 if [ $# -eq 0 ]; then
     command -v rt > /dev/null || stop 'needed and not found: rt'
-    top=$(realpath "$(dirname "$0")/..")
+    top=$(realpath "$(dirname "$0")/../..")
     folder=$(mktemp -d)
     trap 'rm -rf "$folder"' EXIT
     trap 'exit 130' INT TERM

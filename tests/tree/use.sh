@@ -38,7 +38,7 @@ not_run=(
     'library/build.py so'
     'cc -o solve examples/library/solve.c -I library -L library/out -lpuzzles -Wl,-rpath,"$PWD/library/out"'
     './solve pattern 5x1:1/1//1/1/2.2'
-    'python/src/puzzles/library.py pattern 5x1:1/1//1/1/2.2'
+    'PYTHONPATH=python/src examples/library/solve.py pattern 5x1:1/1//1/1/2.2'
     'library/build.py wasm'
     'node examples/library/solve.mjs pattern 5x1:1/1//1/1/2.2'
     "$dask ids.txt solve pattern --budget 20000 > answers.txt"
@@ -55,7 +55,7 @@ case ${1-} in -h | --help) help; exit 0 ;; esac
 [ $# -eq 1 ] || { help >&2; exit 2; }
 [ -f "$1" ] && [ -x "$1" ] || { echo "use.sh: no program that can be run: $1" >&2; exit 2; }
 program=$(realpath "$1")
-top=$(realpath "$(dirname "$0")/..")
+top=$(realpath "$(dirname "$0")/../..")
 for tool in "${tools[@]}"; do
     command -v "$tool" > /dev/null || { echo "needed and not found: $tool" >&2; exit 2; }
 done

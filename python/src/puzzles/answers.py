@@ -2,7 +2,7 @@
 import dataclasses
 import enum
 import re
-from typing import List, Optional, Sequence, Tuple
+from typing import List, Optional, Sequence, Tuple, Type, TypeVar
 
 Grid = Tuple[str, ...]  # the rows of a printed grid, from the top
 
@@ -79,13 +79,16 @@ class Made(Answer):
     grid: Optional[Grid] = None
 
 
-def refused(kind, text: str):
+Kind = TypeVar("Kind", bound=Answer)
+
+
+def refused(kind: Type[Kind], text: str) -> Kind:
     """An answer of a kind that tells a fault."""
     number = re.search("[0-9]+", text)
     return kind(Verdict.REFUSED, text, int(number[0]) if number else None)
 
 
-def refusal(kind, line: str):
+def refusal(kind: Type[Kind], line: str) -> Optional[Kind]:
     """The answer of a kind that a line tells of a fault, or None."""
     return refused(kind, line[len("refused: "):]) if line.startswith("refused: ") else None
 

@@ -1,8 +1,8 @@
 """One question, one process: some milliseconds each."""
-from typing import Iterable, Optional
+from typing import Callable, Iterable, List, Optional, Type
 
 from . import answers, ids
-from .answers import Checked, Graded, Made, Solved
+from .answers import Checked, Graded, Kind, Made, Solved
 from .process import NoAnswer, is_word, known, option, run, word_of
 
 
@@ -41,7 +41,8 @@ def generate(game: str, size: str, seed: int, *, budget: Optional[int] = None, t
     return ask(answers.made, Made, words, game, size, seconds)
 
 
-def ask(read, kind, words, game, text, seconds, given=""):
+def ask(read: Callable[[List[str]], Kind], kind: Type[Kind], words: List[str], game: str, text: str,
+        seconds: Optional[float], given: str = "") -> Kind:
     """The answer of one run, read by a function of `answers`."""
     game, word = known(game), word_of(text)
     if not is_word(word):
@@ -53,10 +54,10 @@ def ask(read, kind, words, game, text, seconds, given=""):
         raise NoAnswer(f"an answer of no known form: {lines[0][:60]!r}") from None
 
 
-def fault_of(game, word, is_size):
+def fault_of(game: str, word: bytes, is_size: bool) -> str:
     """The first fault of a text that is too long or has a NUL."""
     try:
-        (ids.empty if is_size else ids.read)(game, word.decode("latin-1") if is_size else word)
+        ids.empty(game, word.decode("latin-1")) if is_size else ids.read(game, word)
     except ids.Refused as fault:
         return str(fault)
     raise AssertionError("no ID is too long or has a NUL")

@@ -1,22 +1,16 @@
-#!/usr/bin/env python3
-"""Solves puzzles by the library, which Python's own ctypes calls.
+"""Calls libpuzzles.so by ctypes: `Puzzles(FILE).solve("solo", b"2x2:p")` gives the program's status and text.
 
-usage: solve.py [--library FILE] GAME ID..
-
-FILE is the library, and else library/out/libpuzzles.so. It prints what the program prints for each ID, and the status is the
-greatest of them. Programs of your own may import `Puzzles`.
+It imports nothing of this package, so that a process which has it alone begins at once.
 """
-import argparse
 import ctypes
-import pathlib
 import sys
+import threading
 
 GAMES = ("solo", "pattern", "lightup", "tents")
 BLACK = {"pattern": 50, "lightup": 20}  # per cent, as the program has it
 NO_MEMORY, TOO_SMALL = 5, 7
 REFUSED = (2, b"refused: words\n")
 FIRST_ROOM = 1 << 16
-MADE = pathlib.Path(__file__).resolve().parents[2] / "library" / "out" / "libpuzzles.so"
 
 TEXT, BYTE, WORD = (ctypes.c_char_p, ctypes.c_size_t), ctypes.c_uint8, ctypes.c_uint64
 OUTPUT = (ctypes.c_char_p, ctypes.c_size_t, ctypes.POINTER(ctypes.c_size_t))
@@ -32,14 +26,14 @@ def is_number(value, kind):
 
 class Puzzles:
     """The library. Each call gives the program's status and what it writes; with status 5 or 6, for want of memory, nothing.
-    Texts are bytes. One of these is for one thread, since it keeps the room for answers."""
+    Texts are bytes. May be used by many threads: each has a room of its own for answers."""
 
-    def __init__(self, file=MADE):
+    def __init__(self, file):
         library = ctypes.CDLL(str(file))
         self.calls = {name: getattr(library, f"puzzles_{name}") for name in CALLS}
         for name, call in self.calls.items():
             call.argtypes, call.restype = (*CALLS[name], *OUTPUT), ctypes.c_uint8
-        self.written, self.room = ctypes.c_size_t(), ctypes.create_string_buffer(FIRST_ROOM)
+        self.mine = threading.local()
 
     def solve(self, game, text, budget=100_000):
         return self.answer("solve", game, text, len(text), budget)
@@ -66,30 +60,25 @@ class Puzzles:
         numbers = (word for word in zip(words, CALLS[name][1:]) if isinstance(word[0], int))
         if game not in GAMES or not all(is_number(*word) for word in numbers):
             return REFUSED
+        written, room = ctypes.c_size_t(), getattr(self.mine, "room", None) or ctypes.create_string_buffer(FIRST_ROOM)
         while True:
-            output = (self.room, len(self.room), self.written)
-            status = self.calls[name](GAMES.index(game), *words, *output)
+            self.mine.room = room
+            status = self.calls[name](GAMES.index(game), *words, room, len(room), written)
             if status != TOO_SMALL:
-                return status, self.room.raw[:self.written.value] if status < NO_MEMORY else b""
-            self.room = ctypes.create_string_buffer(self.written.value)
+                return status, room.raw[:written.value] if status < NO_MEMORY else b""
+            room = ctypes.create_string_buffer(written.value)
 
 
-def main():
-    form = argparse.ArgumentParser(description=__doc__, formatter_class=argparse.RawDescriptionHelpFormatter)
-    form.add_argument("--library", metavar="FILE", default=MADE)
-    form.add_argument("game", metavar="GAME")
-    form.add_argument("ids", metavar="ID", nargs="+")
-    asked, greatest = form.parse_args(), 0
-    try:
-        puzzles = Puzzles(asked.library)
-    except (OSError, AttributeError) as fault:
-        sys.exit(f"solve.py: no library of puzzles: {fault}")
-    for text in asked.ids:
-        status, said = puzzles.solve(asked.game, text.encode("utf-8", "surrogateescape"))
+def grade_lines(library, game, budget):
+    """Grades the IDs that are lines of the input. A call can't be cut off, so puzzles.collect has a process for it."""
+    puzzles = Puzzles(library)
+    for line in sys.stdin.buffer:
+        status, said = puzzles.grade(game, line.rstrip(b"\n"), int(budget))
+        if status > 4:
+            return status
         sys.stdout.buffer.write(said)
-        greatest = max(greatest, status)
-    return greatest
+    return 0
 
 
 if __name__ == "__main__":
-    sys.exit(main())
+    sys.exit(grade_lines(*sys.argv[1:]))

@@ -3,7 +3,7 @@ import os
 import shutil
 import subprocess
 import sysconfig
-from typing import List, Optional
+from typing import List, Optional, Sequence, Union
 
 GAMES = ("solo", "pattern", "lightup", "tents")
 MOST_BYTES = 65_536  # of an ID
@@ -50,7 +50,7 @@ def is_word(word: bytes) -> bool:
     return len(word) <= MOST_BYTES and b"\0" not in word
 
 
-def run(words: List[bytes], given: str, seconds: Optional[float]) -> List[str]:
+def run(words: Sequence[Union[str, bytes]], given: str, seconds: Optional[float]) -> List[str]:
     """The lines of one run. Raises `Late` and `NoAnswer`."""
     try:
         done = subprocess.run([program(), *words], input=given, capture_output=True, encoding="utf-8",

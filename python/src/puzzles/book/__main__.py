@@ -1,4 +1,3 @@
-#!/usr/bin/env python3
 """Makes a book of puzzles for print: a PDF, and beside it a table (CSV) with the seed, grade, ID and solution of each.
 
     book.py book.pdf                                        100 puzzles of all four games, easy, medium and hard
@@ -150,5 +149,9 @@ def main():
     return 0
 
 
-if __name__ == "__main__":
+def run():
     begin(main)
+
+
+if __name__ == "__main__":
+    run()

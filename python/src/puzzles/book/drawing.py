@@ -1,4 +1,3 @@
-#!/usr/bin/env python3
 """Takes a drawing or a photo, PBM, PGM, PPM or PNG, as a Pattern: prints its ID, and tells whether its clues have one solution.
 
     drawing.py fish.png
@@ -104,5 +103,9 @@ def main():
     return status
 
 
-if __name__ == "__main__":
+def run():
     begin(main)
+
+
+if __name__ == "__main__":
+    run()

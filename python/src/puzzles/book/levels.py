@@ -1,8 +1,9 @@
 """The levels of a book. Easy, medium and hard are the page's: the level of each grade stands in page/web/grades.js."""
 import json
-import pathlib
 
-TABLE = pathlib.Path(__file__).resolve().parents[2] / "page" / "web" / "grades.js"
+from .. import _places
+
+TABLE = _places.page("web") / "grades.js"
 FEW_TRIALS = 4  # with which a `search` is medium, but in Solo
 MOST_TRIALS = 20  # of a hard puzzle
 OF_SOLO, OF_OTHERS = ("houses", "crossings"), ("long",)

@@ -1,4 +1,3 @@
-#!/usr/bin/env python3
 """Keeps puzzles in a table: an SQLite file with one row a puzzle, however often and however spelled it is met.
 
     collect.py add puzzles.db solo ids.txt            takes the lines of a file in, and grades what is new, on all cores
@@ -204,5 +203,9 @@ def main():
     return status or 0
 
 
-if __name__ == "__main__":
+def run():
     begin(main)
+
+
+if __name__ == "__main__":
+    run()

@@ -14,7 +14,7 @@ import sys
 from .._work import Fault, Late
 
 LOOP = 'while read -r id; do "$@" "$id" || [ $? -le 4 ] || exit 9; done'
-BY_LIBRARY = [sys.executable, "-E", "-s", "-S", str(pathlib.Path(__file__).resolve().with_name("by_library.py"))]
+BY_LIBRARY = [sys.executable, "-E", "-s", "-S", str(pathlib.Path(__file__).resolve().parents[1] / "library.py")]
 PART, LIBRARY_PART, PART_SECONDS, ID_SECONDS = 100, 500, 30, 60
 AHEAD = 2  # parts for each core that wait
 ONLY_RULE_SETS = {"pattern": "lines", "lightup": "local", "tents": "local"}

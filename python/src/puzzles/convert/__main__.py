@@ -1,4 +1,3 @@
-#!/usr/bin/env python3
 """Makes game IDs of other programs' files, a line each; or other formats of game IDs.
 
     convert.py from sudoku FILE..       lines of 81 signs (.sdm, .txt), nine lines of nine (.sdk, .ss); 16 and 25 each way too
@@ -96,5 +95,9 @@ def main():
     return told.status
 
 
-if __name__ == "__main__":
+def run():
     begin(main)
+
+
+if __name__ == "__main__":
+    run()

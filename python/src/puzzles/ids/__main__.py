@@ -1,4 +1,3 @@
-#!/usr/bin/env python3
 """Reads a game ID and prints its one written form; or draws the puzzle, or a grid of it, as SVG.
 
     ids.py solo 2x2:__p_                                  prints 2x2:p
@@ -53,5 +52,9 @@ def main():
     return 0
 
 
-if __name__ == "__main__":
+def run():
     begin(main)
+
+
+if __name__ == "__main__":
+    run()

@@ -1,5 +1,11 @@
 """Reads the part of an ID behind its colon as section 2 of docs/FORMATS.md says, and tells its first fault."""
+from __future__ import annotations
+
 import re
+from typing import TYPE_CHECKING, Callable, Dict, List, Tuple
+
+if TYPE_CHECKING:
+    from .reader import Puzzle
 
 DIGITS = re.compile("[0-9]+")
 
@@ -8,19 +14,20 @@ class Refused(ValueError):
     """The first fault of an ID, in the program's words."""
 
 
-def number(text, at):
+def number(text: str, at: int) -> Tuple[int, int]:
     """The number that begins at a place, and the place behind it. Of one with many digits it tells that it is large."""
     digits = DIGITS.match(text, at)
+    assert digits
     return int(digits[0].lstrip("0")[:7] or "0"), digits.end()
 
 
-def add(puzzle, cells, most):
+def add(puzzle: Puzzle, cells: List[str], most: int) -> None:
     if len(puzzle.cells) + len(cells) > most and cells:
         raise Refused("too many")
     puzzle.cells += cells
 
 
-def read_cells(puzzle, text, at):
+def read_cells(puzzle: Puzzle, text: str, at: int) -> None:
     """Of Solo and Light Up: letters for blank cells, and what stands in the others."""
     most, is_solo = puzzle.width * puzzle.height, puzzle.game == "solo"
     while at < len(text):
@@ -40,10 +47,11 @@ def read_cells(puzzle, text, at):
         raise Refused("too few")
 
 
-def read_pattern(puzzle, text, at):
+def read_pattern(puzzle: Puzzle, text: str, at: int) -> None:
     puzzle.cells, lines = [""] * (puzzle.width * puzzle.height), puzzle.width + puzzle.height
     for line in range(lines):
-        clue, is_number = [], DIGITS.match(text, at)
+        clue: List[int] = []
+        is_number = bool(DIGITS.match(text, at))
         while is_number:
             value, behind = number(text, at)
             clue.append(value)
@@ -62,7 +70,7 @@ def read_pattern(puzzle, text, at):
         at += 1
 
 
-def read_tents(puzzle, text, at):
+def read_tents(puzzle: Puzzle, text: str, at: int) -> None:
     most = puzzle.width * puzzle.height + 1  # a tree that is none stands behind the last cell
     while at < len(text) and text[at] != ",":
         sign = text[at]
@@ -88,4 +96,4 @@ def read_tents(puzzle, text, at):
         raise Refused("too many" if text[at] == "," else f"bad byte at {at}")
 
 
-READERS = {"solo": read_cells, "pattern": read_pattern, "lightup": read_cells, "tents": read_tents}
+READERS: Dict[str, Callable[[Puzzle, str, int], None]] = {"solo": read_cells, "pattern": read_pattern, "lightup": read_cells, "tents": read_tents}

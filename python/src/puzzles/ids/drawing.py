@@ -1,6 +1,6 @@
 """Draws puzzles and their grids as SVG, black on white, with lengths in cells."""
 import html
-from typing import Collection, Optional, Sequence
+from typing import Collection, Iterator, List, Optional, Sequence
 
 from .reader import Puzzle
 
@@ -15,7 +15,7 @@ MARGIN = .06
 class Room:
     """How many cells a drawing takes on each side of its grid."""
 
-    def __init__(self, puzzle, is_solution):
+    def __init__(self, puzzle: Puzzle, is_solution: bool) -> None:
         self.left = self.top = self.right = self.below = MARGIN
         columns, rows = puzzle.clues[:puzzle.width], puzzle.clues[puzzle.width:]
         if puzzle.game == "pattern" and not is_solution:
@@ -31,7 +31,7 @@ def number_size(puzzle: Puzzle, is_solution: bool) -> float:
     return (SOLVED_SIZE if is_solution else NUMBER_SIZE) * (TWO_DIGITS if puzzle.block and puzzle.width > 9 else 1)
 
 
-def clue_width(clue):
+def clue_width(clue: List[int]) -> float:
     return sum(len(str(number)) * CLUE_SIZE * DIGIT_WIDTH + .3 for number in clue)
 
 
@@ -53,11 +53,11 @@ def svg(puzzle: Puzzle, cells: Optional[Sequence[str]] = None, cell: float = 10.
             f'text-anchor="middle">{"".join(parts)}</svg>')
 
 
-def squares(puzzle, places):
+def squares(puzzle: Puzzle, places: List[int]) -> str:
     return "".join(f"M{place % puzzle.width} {place // puzzle.width}h1v1h-1z" for place in places)
 
 
-def ground(puzzle, cells):
+def ground(puzzle: Puzzle, cells: Sequence[str]) -> Iterator[str]:
     """Black cells, and the grey diagonals of Solo X."""
     black = [place for place, sign in enumerate(cells) if sign == "#" or puzzle.game == "lightup" and sign.isdigit()]
     last = puzzle.width - 1
@@ -67,7 +67,7 @@ def ground(puzzle, cells):
             yield f'<path d="{squares(puzzle, places)}" fill="{colour}"/>'
 
 
-def lines(puzzle):
+def lines(puzzle: Puzzle) -> Iterator[str]:
     """The thin lines of the grid, and the thick ones of blocks, of each fifth line of Pattern, and around."""
     across, down = puzzle.block or ((5, 5) if puzzle.game == "pattern" else (puzzle.width, puzzle.height))
     for is_thick, width, colour in ((False, .03, "#777"), (True, .08, "#000")):
@@ -78,7 +78,7 @@ def lines(puzzle):
             yield f'<path d="{path}" stroke="{colour}" stroke-width="{width}" stroke-linecap="square" fill="none"/>'
 
 
-def signs(puzzle, cells, size):
+def signs(puzzle: Puzzle, cells: Sequence[str], size: float) -> Iterator[str]:
     """What stands in the cells: numbers of a size, trees, tents and bulbs."""
     for place, sign in enumerate(cells):
         x, y = place % puzzle.width, place // puzzle.width
@@ -93,11 +93,11 @@ def signs(puzzle, cells, size):
             yield f'<path transform="translate({x} {y})" d="{TREE if sign == "T" else TENT}" {look}/>'
 
 
-def number(x, y, value, size, more=""):
+def number(x: float, y: float, value: object, size: float, more: str = "") -> str:
     return f'<text x="{x:.2f}" y="{y + size * DIGIT_HEIGHT / 2:.2f}" font-size="{size:.2f}"{more}>{value}</text>'
 
 
-def clues(puzzle):
+def clues(puzzle: Puzzle) -> Iterator[str]:
     """The numbers beside the grid: of Pattern above it and to its left, of Tents below it and to its right."""
     for line, clue in enumerate(puzzle.clues):
         is_column = line < puzzle.width
@@ -114,7 +114,7 @@ def clues(puzzle):
             away += step
 
 
-def crosses(puzzle, marked):
+def crosses(puzzle: Puzzle, marked: Collection[int]) -> Iterator[str]:
     """A sign over each open cell."""
     for place in marked:
         x, y = place % puzzle.width, place // puzzle.width

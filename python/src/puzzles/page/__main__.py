@@ -1,8 +1,7 @@
-#!/usr/bin/env python3
 """Serves a page over the program `puzzles`, on this machine alone: the files of the folder web/, and four calls in JSON.
 
 A call is POST /solve, /check, /grade or /generate. Of a visitor's text only what a call's fields allow reaches the program.
-docs/USE.md tells the calls, and outside/page.py tries them. Ctrl-C ends it.
+docs/USE.md tells the calls, and tests/page tries them. Ctrl-C ends it.
 """
 import argparse
 import collections
@@ -18,8 +17,10 @@ import signal
 import sys
 import threading
 import time
+import webbrowser
 from pathlib import Path
 
+from .. import _places
 from .calls import NEEDED, Calls, Refused, fields
 from .program import Failed, Process, is_puzzles
 
@@ -30,7 +31,7 @@ LIFE = 10.0  # seconds in which a request has to be there
 WAITING = min(256, resource.getrlimit(resource.RLIMIT_NOFILE)[0] // 4)  # connections without a request; of more one is cut
 BODY = 70_000  # bytes
 
-WEB = Path(__file__).resolve().parent / "web"
+WEB = _places.page("web")
 KINDS = {".html": "text/html; charset=utf-8", ".css": "text/css", ".js": "text/javascript", ".svg": "image/svg+xml",
          ".png": "image/png", ".webmanifest": "application/manifest+json"}
 FILES = {str(path.relative_to(WEB)): path.read_bytes() for path in WEB.rglob("*") if path.suffix in KINDS}
@@ -190,6 +191,7 @@ def main():
     parser = argparse.ArgumentParser(description=__doc__, formatter_class=argparse.RawDescriptionHelpFormatter)
     parser.add_argument("program", nargs="?", default="puzzles", metavar="PROGRAM", help="`puzzles` on the path, if not said")
     parser.add_argument("--port", type=int, default=8017, help="0 for one that is free (default 8017)")
+    parser.add_argument("--open", action="store_true", help="show the page in a browser")
     parser.add_argument("--host", action="append", default=[], metavar="NAME",
                         help="a name under which a server in front hands requests on, beside 127.0.0.1 and localhost")
     words = parser.parse_args()
@@ -213,8 +215,13 @@ def serve(program, words):
     except (OSError, OverflowError) as fault:
         sys.exit(f"port {words.port}: {fault}")
     print(f"http://127.0.0.1:{server.server_port}/", flush=True)
+    if words.open:
+        webbrowser.open(f"http://127.0.0.1:{server.server_port}/")
     server.serve_forever()
 
 
+run = main
+
+
 if __name__ == "__main__":
-    main()
+    run()

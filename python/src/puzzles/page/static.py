@@ -1,4 +1,3 @@
-#!/usr/bin/env python3
 """Writes the page as a folder of files that any web host serves, also `python3 -m http.server`: no server of its own is needed.
 
 All that the program does is done in the browser, by its WebAssembly module. Take the module that a script of the folder library/
@@ -15,9 +14,9 @@ import sys
 import tempfile
 from pathlib import Path
 
-PAGE = Path(__file__).resolve().parent
-LIBRARY = PAGE.parent / "library"
-MODULE = LIBRARY / "out" / "puzzles.wasm"
+from .. import _places
+
+LOADER, MODULE = _places.library("puzzles.js"), _places.library("out/puzzles.wasm")
 FIRST_BYTES = b"\0asm"
 EMPTY = 'const VERSION = "", FILES = {};'  # the line of service.js that is filled in
 
@@ -33,16 +32,16 @@ def found(module):
     with module.open("rb") as opened:
         if opened.read(len(FIRST_BYTES)) != FIRST_BYTES:
             raise Missing(f"{module}: no WebAssembly module")
-    for loader in (module.with_name("puzzles.js"), LIBRARY / "puzzles.js"):
+    for loader in (module.with_name("puzzles.js"), LOADER):
         if loader.is_file():
             return {"puzzles.wasm": module, "puzzles.js": loader}
-    raise Missing(f"no loader: neither {module.with_name('puzzles.js')} nor {LIBRARY / 'puzzles.js'}")
+    raise Missing(f"no loader: neither {module.with_name('puzzles.js')} nor {LOADER}")
 
 
 def sources(module):
     """Each file's name in the folder, and where it comes from. Those of alone/ take the place of web/'s."""
     files = {}
-    for top in (PAGE / "web", PAGE / "alone"):
+    for top in (_places.page("web"), _places.page("alone")):
         files |= {str(path.relative_to(top)): path for path in sorted(top.rglob("*")) if path.is_file()}
     return files | found(module)
 
@@ -93,5 +92,8 @@ def main():
     print(f"{words.folder}: {len(files)} files")
 
 
+run = main
+
+
 if __name__ == "__main__":
-    main()
+    run()
