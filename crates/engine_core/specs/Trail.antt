@@ -84,6 +84,17 @@ pub record IsHouseStruck (p : RuleSystem) (h : ℕ) (from to : Trail) : Type 0 w
   pub alive : IsAlive p (has to.board)
   pub lost : AreLost p h (length (p.scope h)) from to
 
+-- the numbers rise, and are below n
+pub record AreRising (n : ℕ) (list : List ℕ) : Type 0 where
+  pub within : (t : ℕ) → t < length list → slice_index list t < n
+  pub rising : (t u : ℕ) → t < u → u < length list → slice_index list t < slice_index list u
+
+-- a visit of h strikes nothing from its cells that the list doesn't number
+abbrev pub AreKeptOutside : RuleSystem → ℕ → Candidates → List ℕ → Type 0
+AreKeptOutside p h K list = (k v : ℕ) → k < length (p.scope h)
+    → ((t : ℕ) → t < length list → slice_index list t ≡ k → ⊥)
+    → after p h K (slice_index (p.scope h) k) v ≡ K (slice_index (p.scope h) k) v
+
 -- A board with its trail as a position.
 
 -- what the memory was taken for, the board with its trail, and which houses wait

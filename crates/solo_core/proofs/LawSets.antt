@@ -50,6 +50,8 @@ pub ruleset reach_laws = (over_none, over_next)
 
 pub ruleset numbers_laws = (column_in, first-at, second-at, scopes-length, row_in, house-named, crossing-after, all-length)
 
+pub ruleset open_laws = (both-bits, either-bits, zero-bits)
+
 pub ruleset settle_laws = (both-bits, either-bits, zero-bits)
 
 pub ruleset start_laws = (started, started-none, started-all, started-blank, started-given, started-there)

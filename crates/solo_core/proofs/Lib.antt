@@ -9,6 +9,9 @@ pub mod SinglesLemmas
 mod PeelLemmas
 mod NarrowLemmas
 mod SettledLemmas
+mod OpenLemmas
+mod OpenBoardLemmas
+mod OpenVisitLemmas
 mod MateLemmas
 mod CrossingLemmas
 pub mod LawSets

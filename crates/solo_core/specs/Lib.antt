@@ -16,5 +16,7 @@ pub mod Faults
 pub mod Bits
 pub mod Ways
 pub mod PeeledHouses
+pub mod OpenHouses
+pub mod OpenBoards
 pub mod QuickPairings
 pub mod Work

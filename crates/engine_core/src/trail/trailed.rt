@@ -2,7 +2,7 @@
 #![tactic(auto, using(crate::proofs::LawSets::trail_laws))]
 
 ghost use Rattle.std.specs.Prelude.{◌≡◌, ◌≢◌, ℕ, ◌+◌, ◌*◌, ◌<◌, ◌≤◌, IfOk, bit_and, length, true, false};
-ghost use Rattle.engine_core.specs.Common.{has, cells_of, SameShape, IsInside, count_below, only, max_cells, max_values, IsAlive, IsDeadAfter, KeepsChanges, AreSetsOf, IsKept, IsBoardOf, after, IsBitsOf, back_at, change_at, left_by, IsTrailLonger, IsTrailBack, IsHouseStruck};
+ghost use Rattle.engine_core.specs.Common.{has, cells_of, SameShape, IsInside, count_below, only, max_cells, max_values, IsAlive, IsDeadAfter, KeepsChanges, AreSetsOf, IsKept, IsBoardOf, after, IsBitsOf, back_at, change_at, left_by, IsTrailLonger, IsTrailBack, IsHouseStruck, AreRising, AreKeptOutside};
 
 use crate::rules::Rules;
 use grid_core::{Board, Fixed};
@@ -113,6 +113,44 @@ impl TrailedBoard {
                     return true;
                 }
                 self.leave(rules, places[k] as usize, sets[k], left);
+            }
+        }
+        false
+    }
+
+    /// The same where the visit strikes from these of the house's cells alone, by their numbers, which rise.
+    pub(crate) fn strike_listed<R: Rules>(
+        &mut self,
+        rules: &R,
+        house: usize,
+        places: &[u32],
+        rest: &[u8],
+        kept: &[u32],
+    ) -> bool
+        requires house_in { house < (R.system rules.now).houses }
+        requires places { places.now ≡ (R.system rules.now).scope house }
+        requires board_of { IsBoardOf (R.system rules.now) self.old.board }
+        requires alive { IsAlive (R.system rules.now) (has self.old.board) }
+        requires kept { IsKept (R.system rules.now) house (has self.old.board) true kept.now }
+        requires as_many { length kept.now ≡ length ((R.system rules.now).scope house) }
+        requires rising { AreRising (length ((R.system rules.now).scope house)) rest.now }
+        requires others { AreKeptOutside (R.system rules.now) house (has self.old.board) rest.now }
+        ensures dead { result ≡ true → IsDeadAfter (R.system rules.now) house (has self.old.board) }
+        ensures struck { result ≡ false
+            → IsHouseStruck (R.system rules.now) house self.old self.new }
+        ensures alive { IsAlive (R.system rules.now) (has self.new.board) }
+        ensures further { IsTrailLonger self.old self.new }
+    {
+        for i in 0..rest.len() {
+            let k = usize::from(rest[i]);
+            let place = places[k] as usize;
+            let before = self.board.bits(place);
+            let left = before & kept[k];
+            if left != before {
+                if left == 0 {
+                    return true;
+                }
+                self.leave(rules, place, before, left);
             }
         }
         false
