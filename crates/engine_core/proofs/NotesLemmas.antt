@@ -1,10 +1,10 @@
 -- What notes beside a board tell of it.
-use Rattle.engine_core.proofs.Common.{Candidates, IsKept, IsLawful, IsWithin, List, RuleSystem, after, ap, arith, false, length, refl, slice_index, sym, true, ℕ, ◌<◌, ◌∙◌, ◌≡◌, ◌≤◌}
+use Rattle.engine_core.proofs.Common.{Candidates, IsKept, IsLawful, IsWithin, List, RuleSystem, after, ap, arith, false, has_bit, length, refl, slice_index, sym, true, ℕ, ◌<◌, ◌∙◌, ◌≡◌, ◌≤◌}
 use Rattle.std.specs.Prelude.{take}
 use Rattle.std.specs.List.{range_with_len}
-use Rattle.std.proofs.lemmas.List.{get_or-take}
+use Rattle.std.proofs.lemmas.List.{get_or-take, length-take-le}
 use Rattle.std.proofs.lemmas.List.FromFn.{get_or-range_with_len, length-range_with_len}
-use Rattle.engine_core.specs.Notes.{AreToStrike, IsMarkedOut}
+use Rattle.engine_core.specs.Notes.{IsMarkedOut}
 use Rattle.engine_core.proofs.TrailLemmas.{kept-none}
 
 -- ---- without notes
@@ -28,13 +28,13 @@ plain-all {p} {h} {K} {left} n long le kept = record {
 }
   where
     listed : length (take (length (p.scope h)) (range_with_len 0 n)) ≡ length (p.scope h)
-    listed = ?
+    listed = length-take-le (length (p.scope h)) (range_with_len 0 n) (omega (arith, length-range_with_len 0 n))
 
     below : (t : ℕ) → t < length (take (length (p.scope h)) (range_with_len 0 n)) → t < length (p.scope h)
     below t lt = omega (arith, listed)
 
     here : (t : ℕ) → t < length (take (length (p.scope h)) (range_with_len 0 n)) → slice_index (take (length (p.scope h)) (range_with_len 0 n)) t ≡ t
-    here t lt = get_or-take (length (p.scope h)) (range_with_len 0 n) t 0 (below t lt) ∙ get_or-range_with_len 0 n t 0 (omega (arith, below t lt))
+    here t lt = omega (arith, get_or-take (length (p.scope h)) (range_with_len 0 n) t 0 (below t lt), get_or-range_with_len 0 n t 0 (omega (arith, below t lt)))
 
 -- or none, where nothing is struck
 pub plain-none : {p : RuleSystem} (laws : IsLawful p) {h : ℕ} {K : Candidates} {kept : List ℕ} (left : List ℕ) (n : ℕ) → h < p.houses → IsWithin p.cells p.values K
