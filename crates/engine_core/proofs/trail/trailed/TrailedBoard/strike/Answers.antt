@@ -1,7 +1,7 @@
 use Rattle.engine_core.proofs.Common.{IsBitsOf, after, ap, arith, bit_and, cases_eq, has, inl, inr, length, refl, slice_index, sym, take, ◌+◌, ◌<◌, ◌∙◌, ◌≡◌, ◌≤◌}
 use Rattle.std.proofs.lemmas.List.{get_or-take, length-take-le}
 use Rattle.engine_core.proofs.SetLemmas.{bits-are}
-use Rattle.engine_core.proofs.TrailLemmas.{IsStruckUpto, IsUpto, further-more, further-none, kept-left-one, left-alive, lost-differ, lost-more, struck-alive, struck-dead, struck-same, struck-some, struck-to, upto-all, upto-cell, upto-left, upto-next, upto-same, lost-same}
+use Rattle.engine_core.proofs.TrailLemmas.{IsStruckUpto, IsUpto, further-more, further-none, kept-left-one, left-alive, lost-differ, lost-more, struck-alive, struck-dead, struck-some, struck-to, upto-all, upto-cell, upto-left, upto-next, upto-same, lost-same}
 use Rattle.engine_core.proofs.QueueLemmas.{IsBoardOf-same, scope-in, within_of}
 use Rattle.engine_core.proofs.trail.trailed.TrailedBoard.strike.Goals as goal
 use Rattle.engine_core.proofs.trail.trailed.TrailedBoard.strike.Goals.{After-bits-had, After-number-k, then-left-had+else-left-eq0, else-left-had}
