@@ -11,6 +11,7 @@ mod NarrowLemmas
 mod SettledLemmas
 mod OpenLemmas
 mod OpenBoardLemmas
+mod SpotLemmas
 mod OpenVisitLemmas
 mod MateLemmas
 mod CrossingLemmas

@@ -1,5 +1,5 @@
 -- Cells that leave their houses with their values, and come back; and what a visit of the open cells alone strikes.
-use Rattle.solo_core.proofs.Common.{and_from, and_le_r, and_parts, bit_or, AreSettledBut, Bool, IsOutside, IsPassedCell, ltb, IsSingleSet, List, ap, arith, bit_and, both-bits, [], cases_Bool, cases_eq, cases_lt, get_or_append_left, get_or_push, length-append, either-bits, eq-eqb, eqb, eqb-true, false, false_from_ne_true, has_bit, has_in, inl, inr, length, nat_tests, ne_eqb, not, or_cases, refl, slice_index, sym, true, true_from_ne_false, true≢false, zero-bits, ℕ, ◌&&◌, ◌++◌, ◌+◌, ◌∷◌, ◌<◌, ◌^◌, ◌||◌, ◌∙◌, ◌≡◌, ◌≤◌}
+use Rattle.solo_core.proofs.Common.{AreDifferent, and_from, and_le_r, and_parts, bit_or, AreSettledBut, Bool, IsOutside, IsPassedCell, ltb, IsSingleSet, List, ap, arith, bit_and, both-bits, [], cases_Bool, cases_eq, cases_lt, get_or_append_left, get_or_push, length-append, either-bits, eq-eqb, eqb, eqb-true, false, false_from_ne_true, has_bit, has_in, inl, inr, length, nat_tests, ne_eqb, not, or_cases, refl, slice_index, sym, true, true_from_ne_false, true≢false, zero-bits, ℕ, ◌&&◌, ◌++◌, ◌+◌, ◌∷◌, ◌<◌, ◌^◌, ◌||◌, ◌∙◌, ◌≡◌, ◌≤◌}
 use Rattle.std.specs.Prelude.{IfNone, IfSome, None, Option, Some}
 use Rattle.solo_core.proofs.BitLemmas.{none_in_zero, some_set}
 use Rattle.solo_core.specs.OpenHouses.{HasAlone, IsClosedCell, IsOpenOf, ListsBits, ListsBitsBelow}
@@ -113,6 +113,16 @@ module _ {has : ℕ → ℕ → Bool} {n cells values : ℕ} (o : IsOpenOf has n
         not_here : (w : ℕ) → has_bit more_values w ≡ false → eqb w v ≡ false
         not_here w off = let z = vs w in grind arith
 
+-- numbers that rise are different
+pub rising-different : (list : List ℕ) → ((t u : ℕ) → t < u → u < length list → slice_index list t < slice_index list u) → AreDifferent list
+rising-different list rising j k lj lk e = elim (cases_lt j k) [
+  | inl before ↦ absurd (omega (arith, rising j k before lk, e))
+  | inr from ↦ elim (cases_lt k j) [
+    | inl after ↦ absurd (omega (arith, rising k j after lj, e))
+    | inr upto ↦ omega arith
+  ]
+]
+
 -- A visit of the open cells alone: the others are settled.
 pub open-settled : {n cells values settled : ℕ} {sets rest : List ℕ} → IsOpenOf (has_in sets) n cells values → length sets ≡ n
     → ListsBits cells rest → length rest ≤ n → ((v : ℕ) → has_bit settled v ≡ (ltb v n && not (has_bit values v)))
@@ -120,7 +130,7 @@ pub open-settled : {n cells values settled : ℕ} {sets rest : List ℕ} → IsO
 open-settled {n} {cells} {values} {settled} {sets} {rest} o square list few is = record {
   few = omega (arith, square);
   within = λ t lt. omega (arith, o.cells_in (slice_index rest t) (list.set t lt), square);
-  different = list.different;
+  different = rising-different rest list.rising;
   some = λ k lk out. let c = o.closed k (omega (arith, square)) (off k out) in (c.value, c.alone c.value ∙ eq-eqb c.value c.value refl);
   counts = record {
     has = λ j v on has.
@@ -197,7 +207,7 @@ pub listed-none : (bits : ℕ) → ListsBitsBelow bits 0 []
 listed-none bits = record {
   set = λ t lt. absurd (omega arith);
   below = λ t lt. absurd (omega arith);
-  different = λ j k lj lk e. absurd (omega arith);
+  rising = λ t u le lu. absurd (omega arith);
   all = λ k on lt. absurd (omega arith);
 }
 
@@ -212,15 +222,9 @@ module _ (bits from : ℕ) (list : List ℕ) (l : ListsBitsBelow bits from list)
       | inl low ↦ omega (arith, first t low, l.below t low)
       | inr high ↦ omega (arith, last t (omega (arith, longer)))
     ];
-    different = λ i j li lj e. elim (cases_lt i (length list)) [
-      | inl low_i ↦ elim (cases_lt j (length list)) [
-        | inl low_j ↦ l.different i j low_i low_j (sym (first i low_i) ∙ e ∙ first j low_j)
-        | inr high ↦ absurd (omega (arith, first i low_i, l.below i low_i, last j (omega (arith, longer)), e))
-      ]
-      | inr high_i ↦ elim (cases_lt j (length list)) [
-        | inl low_j ↦ absurd (omega (arith, first j low_j, l.below j low_j, last i (omega (arith, longer)), e))
-        | inr high ↦ omega (arith, longer)
-      ]
+    rising = λ t u before lu. elim (cases_lt u (length list)) [
+      | inl low ↦ omega (arith, first t (omega arith), first u low, l.rising t u before low)
+      | inr high ↦ omega (arith, longer, first t (omega (arith, longer)), last u (omega (arith, longer)), l.below t (omega (arith, longer)))
     ];
     all = λ j set lt. elim (cases_lt j from) [
       | inl low ↦ let w = l.all j set low in (w.0, omega (arith, w.1, longer), first w.0 w.1 ∙ w.2)
@@ -244,7 +248,7 @@ module _ (bits from : ℕ) (list : List ℕ) (l : ListsBitsBelow bits from list)
   pub listed-all : (n : ℕ) → NoneIsSet bits from n → ((k : ℕ) → has_bit bits k ≡ true → k < n) → ListsBits bits list
   listed-all n none within = record {
     set = l.set;
-    different = l.different;
+    rising = l.rising;
     all = λ k on. elim (cases_lt k from) [ inl low ↦ l.all k on low | inr high ↦ absurd (none k high (within k on) on) ];
   }
 
