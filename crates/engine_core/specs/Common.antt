@@ -18,6 +18,7 @@ pub use Rattle.engine_core.specs.Keeping.{AreHeadSets, AreSets, AreSetsOf, HasSe
 pub use Rattle.engine_core.specs.HouseList.{AreScopesOf, listed_visits, table_of}
 pub use Rattle.engine_core.specs.Mode.{is_queue}
 pub use Rattle.engine_core.specs.Needs.{needs_in}
+pub use Rattle.engine_core.specs.Notes.{AreToStrike, HasOnly, IsKeptAt, IsMarkedOut, KeepsOnly, SameBut}
 pub use Rattle.engine_core.specs.Position.{IsClosedAround, IsClosedBut, IsFull, IsOnward, IsReturned, IsTaken, IsTakenTo, Room, Standing, is_solved, most_changes, own_grid}
 pub use Rattle.engine_core.specs.Queue.{IsQueuedAround, IsRested, is_dead_in}
 unfoldable pub use Rattle.engine_core.specs.Queue.{but}

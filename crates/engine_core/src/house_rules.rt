@@ -101,8 +101,15 @@ impl<S: RuleSet> HouseRules<S> {
         self.filter(house, board, sets, kept, work) && apply(board, places, &kept[..places.len()])
     }
 
+    /// What decides a visit of a house.
+    pub fn set(&self) -> &S
+        ensures { result.now ≡ self.now.set }
+    {
+        &self.set
+    }
+
     /// The places of the house.
-    pub(crate) fn places(&self, house: usize) -> &[u32]
+    pub fn places(&self, house: usize) -> &[u32]
         requires { house < (S.system (S.puzzle_of self.now.set)).houses }
         ensures { result.now ≡ (S.system (S.puzzle_of self.now.set)).scope house }
     {
