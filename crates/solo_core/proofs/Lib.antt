@@ -12,6 +12,7 @@ mod SettledLemmas
 mod OpenLemmas
 mod OpenBoardLemmas
 mod SpotLemmas
+mod NoteLemmas
 mod OpenVisitLemmas
 mod MateLemmas
 mod CrossingLemmas

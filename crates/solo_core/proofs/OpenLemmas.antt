@@ -3,6 +3,7 @@ use Rattle.solo_core.proofs.Common.{AreDifferent, and_from, and_le_r, and_parts,
 use Rattle.std.specs.Prelude.{IfNone, IfSome, None, Option, Some}
 use Rattle.solo_core.proofs.BitLemmas.{none_in_zero, some_set}
 use Rattle.solo_core.specs.OpenHouses.{HasAlone, IsClosedCell, IsOpenOf, ListsBits, ListsBitsBelow}
+use Rattle.solo_core.specs.OpenLaws.{open-other}
 use Rattle.solo_core.specs.Bits.{NoneIsSet}
 use Rattle.solo_core.specs.Common.{IsBitsOf}
 use Rattle.std.proofs.lemmas.Nat.Bits.{bit_at_above}
@@ -16,18 +17,6 @@ module _ {has : ℕ → ℕ → Bool} {n cells values : ℕ} (o : IsOpenOf has n
   closed-value k v lk off on =
       let c = o.closed k lk off in
       ap (has_bit values) (eqb-true v c.value (sym (c.alone v) ∙ on)) ∙ c.not_open
-
-  -- the board changes in open cells alone
-  pub open-other : {now : ℕ → ℕ → Bool} → ((k v : ℕ) → k < n → has_bit cells k ≡ false → now k v ≡ has k v) → IsOpenOf now n cells values
-  open-other {now} same = record {
-    cells_in = o.cells_in;
-    values_in = o.values_in;
-    closed = λ k lk off.
-        let c = o.closed k lk off in
-        record { value = c.value; value_in = c.value_in; not_open = c.not_open; alone = λ w. same k w lk off ∙ c.alone w };
-    different = λ j k v lj lk off_j off_k on_j on_k. o.different j k v lj lk off_j off_k (sym (same j v lj off_j) ∙ on_j) (sym (same k v lk off_k) ∙ on_k);
-    held = λ v lv off. let w = o.held v lv off in (w.0, w.1, w.2, same w.0 v w.1 w.2 ∙ w.3);
-  }
 
   module _ {k v more_cells more_values : ℕ} (lk : k < n) (lv : v < n) (alone : HasAlone has k v) where
     -- a cell that has an open value alone leaves the house with it

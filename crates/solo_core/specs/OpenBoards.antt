@@ -1,7 +1,9 @@
 -- Which cells and values are open in each house of a board.
 use Rattle.std.specs.Prelude.{◌≡◌, ℕ, ◌<◌, ◌≤◌, ◌==◌, ◌&&◌, ◌+◌, ◌*◌, ◌/◌, ◌%◌, Bool, true, List, length, slice_index, slice_index_or, if◌then◌else◌}
-use Rattle.solo_core.specs.Common.{Candidates, RuleSystem, Solo, has_bit}
+use Rattle.solo_core.specs.Common.{Candidates, RuleSystem, Solo, has_bit, houses_of}
 use Rattle.gameid_core.specs.Head.{max_numbers}
+use Rattle.engine_core.specs.RuleSystem.{Needs}
+use Rattle.solo_core.specs.RuleSets.{houses_rules}
 use Rattle.solo_core.specs.PeeledHouses.{IsSingleSet}
 use Rattle.solo_core.specs.OpenHouses.{IsOpenHouse}
 use Rattle.solo_core.specs.declared.visits.open.OpenHouse.{OpenHouse}
@@ -112,3 +114,18 @@ pub record IsSpotTable (c r : ℕ) (x : Bool) (spots : List Spot) : Type 0 where
   pub room : c * r * (c * r) * spots_each x ≤ length spots
   pub few : c * r ≤ max_numbers
   pub are : AreAllSpots c r (spots_each x) spots
+
+-- What a search of a puzzle keeps beside its board.
+
+-- which cells and values of each house are open, and where each cell stands
+pub record AreNotesOf (p : Solo) (K : Candidates) (houses : List OpenHouse) (table : SpotList) : Type 0 where
+  pub enough : length (houses_of p) ≤ length houses
+  pub size : IsSizeOf p table
+  pub are_open : AreOpenIn (houses_rules p) K houses
+
+-- the memory is enough for these needs: as many values, and no more houses and cells
+pub record HasRoomFor (houses spots kept rest : ℕ) (needs : Needs) : Type 0 where
+  pub houses_in : needs.houses ≤ houses
+  pub spots_in : needs.cells * 5 ≤ spots
+  pub kept_in : needs.values ≡ kept
+  pub rest_in : needs.values ≡ rest

@@ -3,6 +3,7 @@
 
 ghost use Rattle.std.specs.Prelude.{◌<◌, ◌≡◌, ◌≤◌, ◌*◌, ◌+◌, IfOk, length};
 ghost use Rattle.gameid_core.specs.Head.{max_numbers};
+ghost use Rattle.grid_core.specs.Candidates.{max_cells};
 ghost use Rattle.solo_core.specs.Common.{IsSolo, solo_cells};
 ghost use Rattle.solo_core.specs.OpenBoards.{AreAllSpots, AreSpotsAt, IsSizeOf, spot_of, spots_each};
 
@@ -108,7 +109,7 @@ impl SpotTable {
     ///
     /// When memory was refused.
     pub(crate) fn new(alloc: Global, cells: usize) -> Result<SpotTable, AllocError>
-        requires { cells ≤ 961 }
+        requires { cells ≤ max_cells }
         ensures room { IfOk result (λ table. length table.spots ≡ cells * 5) }
     {
         Ok(SpotTable {
