@@ -1,7 +1,8 @@
 -- What is noted of a board, when a cell is closed, when one is opened, and at the start.
 use Rattle.solo_core.proofs.Common.{Bool, Candidates, IsSingleSet, IsSolo, List, Solo, ap, arith, cases_Bool, cases_lt, eq-eqb, eqb, eqb-true, false, filled_houses, get_or-replicate, has_bit, houses_of, houses_rules, inl, inr, length, ne_eqb, refl, replicate, slice_index, solo_cells, solo_n, sym, true, true≢false, ℕ, ◌*◌, ◌<◌, ◌^◌, ◌∙◌, ◌≡◌, ◌≤◌}
 use Rattle.std.proofs.lemmas.Nat.Bits.{bit_at_above}
-use Rattle.std.proofs.lemmas.List.{length-replicate}
+use Rattle.std.specs.Prelude.{slice_index_or}
+use Rattle.std.proofs.lemmas.List.{get_or_default, length-replicate}
 use Rattle.grid_core.specs.Board.{Layout, has}
 use Rattle.grid_core.specs.Candidates.{count_below}
 use Rattle.grid_core.proofs.BoardLemmas.{count_below-few, count_below-one, count_below-pos, has-within, least_below-passes}
@@ -22,17 +23,23 @@ module _ (b : Layout) (place : ℕ) where
 
   pub one-only : count_below (has b place) b.values ≡ 1 → (v : ℕ) × (v < b.values) × HasOnly (has b) place v
   one-only one =
-      let w = least_below-passes (has b place) b.values (omega arith) in
-      (_, w.0, λ u. elim (cases_Bool (has b place u)) [
-        | inl on ↦ on ∙ sym (eq-eqb u _ (count_below-one (has b place) b.values u _ (omega arith) (within u on) w.0 on w.1))
-        | inr off ↦ off ∙ sym (ne_eqb u _ (λ e. true≢false (sym w.1 ∙ ap (has b place) (sym e) ∙ off)))
-      ])
+      let w = least_below-passes (has b place) b.values (omega arith) in (
+        _,
+        w.0,
+        λ u. elim (cases_Bool (has b place u)) [
+          | inl on ↦ on ∙ sym (eq-eqb u _ (count_below-one (has b place) b.values u _ (omega arith) (within u on) w.0 on w.1))
+          | inr off ↦ off ∙ sym (ne_eqb u _ (λ e. true≢false (sym w.1 ∙ ap (has b place) (sym e) ∙ off)))
+        ],
+      )
 
   pub only-one : (v : ℕ) → HasOnly (has b) place v → count_below (has b place) b.values ≡ 1
   only-one v only =
       let on = only v ∙ eq-eqb v v refl in
-      omega (arith, count_below-pos (has b place) b.values v (within v on) on,
-        count_below-few (has b place) b.values (λ k j lk lj on_k on_j. eqb-true k v (sym (only k) ∙ on_k) ∙ sym (eqb-true j v (sym (only j) ∙ on_j))))
+      omega (
+        arith,
+        count_below-pos (has b place) b.values v (within v on) on,
+        count_below-few (has b place) b.values (λ k j lk lj on_k on_j. eqb-true k v (sym (only k) ∙ on_k) ∙ sym (eqb-true j v (sym (only j) ∙ on_j))),
+      )
 
   pub single-set : {bits v : ℕ} → bits < 2 ^ b.values → ((w : ℕ) → w < b.values → has_bit bits w ≡ has b place w) → v < b.values
       → HasOnly (has b) place v → IsSingleSet bits v
@@ -101,3 +108,10 @@ noted-all p K {m} all few size set below = record {
 pub room-made : {houses spots kept rest : ℕ} (needs : Needs) → houses ≡ needs.houses → spots ≡ needs.cells * 5 → kept ≡ needs.values → rest ≡ needs.values
     → HasRoomFor houses spots kept rest needs
 room-made needs h s k r = record { houses_in = omega arith; spots_in = omega arith; kept_in = sym k; rest_in = sym r }
+
+-- which cells and values of a house are open
+pub noted-house : (p : Solo) {K : Candidates} {houses : List OpenHouse} {table : SpotList} → AreNotesOf p K houses table → (h : ℕ) → h < length (filled_houses p)
+    → {places : List ℕ} {values : ℕ} {house : OpenHouse} → places ≡ (houses_rules p).scope h → values ≡ solo_n p → house ≡ slice_index_or houses h house
+    → IsOpenOf (λ k v. K (slice_index places k) v) values house.cells house.values
+noted-house p {houses = houses} notes h lh {house = house} s_is v_is is =
+    rw (s_is, v_is, is, get_or_default houses h house no_open_house (omega (arith, filled-length p, notes.enough))) (notes.are_open h lh)

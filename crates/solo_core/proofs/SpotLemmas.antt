@@ -202,7 +202,10 @@ module _ (p : Solo) (ok : IsSolo p) where
         let w = named s in
         let is = at.is w.0 w.1 in
         let house = ap (λ t. t.house) is ∙ w.2 in
-        let own = spot-stands w.0 w.1 in
-        (w.0, omega (arith, at.as_many, w.1), house,
-         ap (λ t. t.cell) is ∙ (houses_lawful p ok).scope_distinct h _ k s.house_in (omega (arith, long-at _ p s.house_in ok, own.cell_in)) (omega (arith, long-at _ p s.house_in ok, s.cell_in))
-           (ap (λ g. slice_index ((houses_rules p).scope g) (spot_of p.c p.r place w.0).cell) (sym w.2) ∙ own.is ∙ sym s.is))
+        let own = spot-stands w.0 w.1 in (
+          w.0,
+          omega (arith, at.as_many, w.1),
+          house,
+          ap (λ t. t.cell) is ∙ (houses_lawful p ok).scope_distinct h _ k s.house_in (omega (arith, long-at _ p s.house_in ok, own.cell_in)) (omega (arith, long-at _ p s.house_in ok, s.cell_in))
+              (ap (λ g. slice_index ((houses_rules p).scope g) (spot_of p.c p.r place w.0).cell) (sym w.2) ∙ own.is ∙ sym s.is),
+        )

@@ -74,7 +74,15 @@ impl Notes<SoloFillings> for OpenNotes {
         work: &mut Pairing,
     ) -> Option<usize> {
         let (values, places, open) = (rules.values(), rules.places(house), self.houses[house]);
-        visit_open(values, board, places, open, &mut self.kept, &mut self.rest, work)
+        visit_open(
+            values,
+            board,
+            places,
+            open,
+            &mut self.kept,
+            &mut self.rest,
+            work,
+        )
     }
 
     fn number(&self, i: usize) -> usize {
@@ -86,11 +94,23 @@ impl Notes<SoloFillings> for OpenNotes {
     }
 
     fn single(&mut self, rules: &HouseRules<SoloFillings>, place: usize, board: &Board) {
-        close_at(&mut self.houses, &self.spots, &rules.set().puzzle, place, board);
+        close_at(
+            &mut self.houses,
+            &self.spots,
+            &rules.set().puzzle,
+            place,
+            board,
+        );
     }
 
     fn back(&mut self, rules: &HouseRules<SoloFillings>, place: usize, board: &Board) {
-        open_at(&mut self.houses, &self.spots, &rules.set().puzzle, place, board);
+        open_at(
+            &mut self.houses,
+            &self.spots,
+            &rules.set().puzzle,
+            place,
+            board,
+        );
     }
 
     ghost stays_noted = { λ puzzle notes K L keeps noted. noted-kept puzzle keeps noted };

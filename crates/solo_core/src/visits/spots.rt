@@ -48,7 +48,10 @@ fn find_spot(c: u8, r: u8, place: usize, which: usize) -> Spot
         return Spot::at(n + x, y);
     }
     if which == 2 {
-        return Spot::at(2 * n + (y / tall * tall + x / wide), y % tall * wide + x % wide);
+        return Spot::at(
+            2 * n + (y / tall * tall + x / wide),
+            y % tall * wide + x % wide,
+        );
     }
     if which == 3 && y == x {
         return Spot::at(3 * n, y);

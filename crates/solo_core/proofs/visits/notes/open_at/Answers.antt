@@ -10,7 +10,7 @@ returns-then-count-eq1-clause-notes c = λ L same.
     let b = c.args.board.now in
     let w = one-only b c.args.place (sym c.count.ensures ∙ c.if-count-eq1.true) in
     let stay = noted-stay _ c.requires.solo c.requires.notes c.args.place c.requires.place_in c.at.ensures _ c.reopen_cell.ensures.as_many c.reopen_cell.ensures.stay
-      (omega (arith, w.1, c.requires.values)) (single-set b c.args.place c.bits.ensures.small c.bits.ensures.same w.1 w.2) w.2 in
+    (omega (arith, w.1, c.requires.values)) (single-set b c.args.place c.bits.ensures.small c.bits.ensures.same w.1 w.2) w.2 in
     noted-open _ c.requires.solo stay c.args.place c.requires.place_in c.at.ensures c.reopen_cell.ensures.here same
 
 pub returns-else-count-eq1-clause-notes : goal.returns-else-count-eq1-clause-notes
