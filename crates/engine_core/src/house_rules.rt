@@ -8,6 +8,7 @@ ghost use Rattle.engine_core.specs.declared.mode.Mode.TheVariants.{Queue};
 use crate::houses::table::{HouseTable, join_marks};
 use crate::houses::visit::{apply, gather};
 use crate::mode::Mode;
+use crate::notes::Noted;
 use crate::rule_set::{RuleParts, RuleSet};
 use crate::rules::Rules;
 use crate::search::position::Searchable;
@@ -213,6 +214,6 @@ impl<S: RuleSet> Rules for HouseRules<S> {
     }
 }
 
-impl<S: RuleSet> Searchable for HouseRules<S> {
+impl<S: Noted> Searchable for HouseRules<S> {
     type Position = TrailPosition<S>;
 }

@@ -68,7 +68,7 @@ impl<S: RuleSet> Notes<S> for PlainNotes {
     ghost stays_noted = { λ _ _ _ _ _ noted. noted };
 
     ghost made_for_smaller = { λ _ need had fits made. (
-        le_trans fits.scope_in made.0,
-        le_trans fits.scope_in made.1,
+      le_trans fits.scope_in made.0,
+      le_trans fits.scope_in made.1,
     ) };
 }

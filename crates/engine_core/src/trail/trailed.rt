@@ -2,8 +2,11 @@
 #![tactic(auto, using(crate::proofs::LawSets::trail_laws))]
 
 ghost use Rattle.std.specs.Prelude.{◌≡◌, ◌≢◌, ℕ, ◌+◌, ◌*◌, ◌<◌, ◌≤◌, IfOk, bit_and, length, true, false};
-ghost use Rattle.engine_core.specs.Common.{has, cells_of, SameShape, IsInside, count_below, only, max_cells, max_values, IsAlive, IsDeadAfter, KeepsChanges, AreSetsOf, IsKept, IsBoardOf, after, IsBitsOf, back_at, change_at, left_by, IsTrailLonger, IsTrailBack, IsHouseStruck, AreRising, AreKeptOutside};
+ghost use Rattle.engine_core.specs.Common.{has, cells_of, SameShape, IsInside, count_below, only, max_cells, max_values, IsAlive, IsDeadAfter, KeepsChanges, IsBoardOf, IsMarkedOut, needs_of, IsBitsOf, back_at, change_at, left_by, IsTrailLonger, IsTrailBack, IsHouseStruck};
 
+use crate::house_rules::HouseRules;
+use crate::notes::Notes;
+use crate::rule_set::RuleSet;
 use crate::rules::Rules;
 use grid_core::{Board, Fixed};
 use std::alloc::{AllocError, Global};
@@ -84,73 +87,39 @@ impl TrailedBoard {
         self.len = 0;
     }
 
-    /// Leaves of each cell of the house what is kept of its set, and notes what those had that lost a value. Says whether one
-    /// would lose its last: it stops there.
-    pub(crate) fn strike<R: Rules>(
+    /// Strikes what a visit of the house marked out, and notes what those cells had that lost a value. Says whether one would
+    /// lose its last: it stops there.
+    pub(crate) fn strike<S: RuleSet, N: Notes<S>>(
         &mut self,
-        rules: &R,
+        rules: &HouseRules<S>,
         house: usize,
-        places: &[u32],
-        sets: &[u32],
-        kept: &[u32],
+        notes: &N,
+        count: usize,
     ) -> bool
-        requires house_in { house < (R.system rules.now).houses }
-        requires places { places.now ≡ (R.system rules.now).scope house }
-        requires board_of { IsBoardOf (R.system rules.now) self.old.board }
-        requires alive { IsAlive (R.system rules.now) (has self.old.board) }
-        requires sets { AreSetsOf (R.system rules.now) house (has self.old.board) sets.now }
-        requires kept { IsKept (R.system rules.now) house (has self.old.board) true kept.now }
-        requires as_many { length kept.now ≡ length sets.now }
-        ensures dead { result ≡ true → IsDeadAfter (R.system rules.now) house (has self.old.board) }
+        requires house_in { house < (S.system (S.puzzle_of rules.now.set)).houses }
+        requires made { N.made_for notes.now (needs_of (S.system (S.puzzle_of rules.now.set))) }
+        requires board_of { IsBoardOf (S.system (S.puzzle_of rules.now.set)) self.old.board }
+        requires alive { IsAlive (S.system (S.puzzle_of rules.now.set)) (has self.old.board) }
+        requires marked { IsMarkedOut (S.system (S.puzzle_of rules.now.set)) house
+            (has self.old.board) count (N.numbers notes.now) (N.kept_at notes.now house) }
+        ensures dead { result ≡ true
+            → IsDeadAfter (S.system (S.puzzle_of rules.now.set)) house (has self.old.board) }
         ensures struck { result ≡ false
-            → IsHouseStruck (R.system rules.now) house self.old self.new }
+            → IsHouseStruck (S.system (S.puzzle_of rules.now.set)) house self.old self.new }
+        ensures alive { IsAlive (S.system (S.puzzle_of rules.now.set)) (has self.new.board) }
         ensures further { IsTrailLonger self.old self.new }
     {
-        for k in 0..sets.len() {
-            let left = sets[k] & kept[k];
-            if left != sets[k] {
-                if left == 0 {
-                    return true;
-                }
-                self.leave(rules, places[k] as usize, sets[k], left);
-            }
-        }
-        false
-    }
-
-    /// The same where the visit strikes from these of the house's cells alone, by their numbers, which rise.
-    pub(crate) fn strike_listed<R: Rules>(
-        &mut self,
-        rules: &R,
-        house: usize,
-        places: &[u32],
-        rest: &[u8],
-        kept: &[u32],
-    ) -> bool
-        requires house_in { house < (R.system rules.now).houses }
-        requires places { places.now ≡ (R.system rules.now).scope house }
-        requires board_of { IsBoardOf (R.system rules.now) self.old.board }
-        requires alive { IsAlive (R.system rules.now) (has self.old.board) }
-        requires kept { IsKept (R.system rules.now) house (has self.old.board) true kept.now }
-        requires as_many { length kept.now ≡ length ((R.system rules.now).scope house) }
-        requires rising { AreRising (length ((R.system rules.now).scope house)) rest.now }
-        requires others { AreKeptOutside (R.system rules.now) house (has self.old.board) rest.now }
-        ensures dead { result ≡ true → IsDeadAfter (R.system rules.now) house (has self.old.board) }
-        ensures struck { result ≡ false
-            → IsHouseStruck (R.system rules.now) house self.old self.new }
-        ensures alive { IsAlive (R.system rules.now) (has self.new.board) }
-        ensures further { IsTrailLonger self.old self.new }
-    {
-        for i in 0..rest.len() {
-            let k = usize::from(rest[i]);
+        let (places, kept) = (rules.places(house), notes.kept(rules, house));
+        for i in 0..count {
+            let k = notes.number(i);
             let place = places[k] as usize;
-            let before = self.board.bits(place);
-            let left = before & kept[k];
-            if left != before {
+            let had = self.board.bits(place);
+            let left = had & kept[k];
+            if left != had {
                 if left == 0 {
                     return true;
                 }
-                self.leave(rules, place, before, left);
+                self.leave(rules, place, had, left);
             }
         }
         false
