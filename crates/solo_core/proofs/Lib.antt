@@ -11,6 +11,8 @@ mod NarrowLemmas
 mod SettledLemmas
 mod OpenLemmas
 mod OpenBoardLemmas
+mod SpotLemmas
+mod NoteLemmas
 mod OpenVisitLemmas
 mod MateLemmas
 mod CrossingLemmas

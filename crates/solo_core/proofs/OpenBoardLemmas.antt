@@ -5,7 +5,7 @@ use Rattle.solo_core.specs.OpenHouses.{StaysOpenWith}
 use Rattle.solo_core.specs.OpenBoards.{AreAllSpotsOf, AreOpenIn, AreOpenSpots, IsOpenCell, StandsAt, StayOpenWith, house_has, no_open_house, open_at, spot_at}
 use Rattle.solo_core.specs.declared.visits.open.OpenHouse.{OpenHouse}
 use Rattle.solo_core.specs.declared.visits.spots.Spot.{Spot}
-use Rattle.solo_core.proofs.OpenLemmas.{open-other}
+use Rattle.solo_core.specs.OpenLaws.{open-other}
 
 module _ (p : RuleSystem) (K L : Candidates) (houses : List OpenHouse) (o : AreOpenIn p K houses) where
   -- values are struck, and each closed cell has some left: it keeps its one value

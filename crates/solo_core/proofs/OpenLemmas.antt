@@ -1,8 +1,9 @@
 -- Cells that leave their houses with their values, and come back; and what a visit of the open cells alone strikes.
-use Rattle.solo_core.proofs.Common.{and_from, and_le_r, and_parts, bit_or, AreSettledBut, Bool, IsOutside, IsPassedCell, ltb, IsSingleSet, List, ap, arith, bit_and, both-bits, [], cases_Bool, cases_eq, cases_lt, get_or_append_left, get_or_push, length-append, either-bits, eq-eqb, eqb, eqb-true, false, false_from_ne_true, has_bit, has_in, inl, inr, length, nat_tests, ne_eqb, not, or_cases, refl, slice_index, sym, true, true_from_ne_false, true≢false, zero-bits, ℕ, ◌&&◌, ◌++◌, ◌+◌, ◌∷◌, ◌<◌, ◌^◌, ◌||◌, ◌∙◌, ◌≡◌, ◌≤◌}
+use Rattle.solo_core.proofs.Common.{AreDifferent, and_from, and_le_r, and_parts, bit_or, AreSettledBut, Bool, IsOutside, IsPassedCell, ltb, IsSingleSet, List, ap, arith, bit_and, both-bits, [], cases_Bool, cases_eq, cases_lt, get_or_append_left, get_or_push, length-append, either-bits, eq-eqb, eqb, eqb-true, false, false_from_ne_true, has_bit, has_in, inl, inr, length, nat_tests, ne_eqb, not, or_cases, refl, slice_index, sym, true, true_from_ne_false, true≢false, zero-bits, ℕ, ◌&&◌, ◌++◌, ◌+◌, ◌∷◌, ◌<◌, ◌^◌, ◌||◌, ◌∙◌, ◌≡◌, ◌≤◌}
 use Rattle.std.specs.Prelude.{IfNone, IfSome, None, Option, Some}
 use Rattle.solo_core.proofs.BitLemmas.{none_in_zero, some_set}
 use Rattle.solo_core.specs.OpenHouses.{HasAlone, IsClosedCell, IsOpenOf, ListsBits, ListsBitsBelow}
+use Rattle.solo_core.specs.OpenLaws.{open-other}
 use Rattle.solo_core.specs.Bits.{NoneIsSet}
 use Rattle.solo_core.specs.Common.{IsBitsOf}
 use Rattle.std.proofs.lemmas.Nat.Bits.{bit_at_above}
@@ -16,18 +17,6 @@ module _ {has : ℕ → ℕ → Bool} {n cells values : ℕ} (o : IsOpenOf has n
   closed-value k v lk off on =
       let c = o.closed k lk off in
       ap (has_bit values) (eqb-true v c.value (sym (c.alone v) ∙ on)) ∙ c.not_open
-
-  -- the board changes in open cells alone
-  pub open-other : {now : ℕ → ℕ → Bool} → ((k v : ℕ) → k < n → has_bit cells k ≡ false → now k v ≡ has k v) → IsOpenOf now n cells values
-  open-other {now} same = record {
-    cells_in = o.cells_in;
-    values_in = o.values_in;
-    closed = λ k lk off.
-        let c = o.closed k lk off in
-        record { value = c.value; value_in = c.value_in; not_open = c.not_open; alone = λ w. same k w lk off ∙ c.alone w };
-    different = λ j k v lj lk off_j off_k on_j on_k. o.different j k v lj lk off_j off_k (sym (same j v lj off_j) ∙ on_j) (sym (same k v lk off_k) ∙ on_k);
-    held = λ v lv off. let w = o.held v lv off in (w.0, w.1, w.2, same w.0 v w.1 w.2 ∙ w.3);
-  }
 
   module _ {k v more_cells more_values : ℕ} (lk : k < n) (lv : v < n) (alone : HasAlone has k v) where
     -- a cell that has an open value alone leaves the house with it
@@ -113,6 +102,16 @@ module _ {has : ℕ → ℕ → Bool} {n cells values : ℕ} (o : IsOpenOf has n
         not_here : (w : ℕ) → has_bit more_values w ≡ false → eqb w v ≡ false
         not_here w off = let z = vs w in grind arith
 
+-- numbers that rise are different
+pub rising-different : (list : List ℕ) → ((t u : ℕ) → t < u → u < length list → slice_index list t < slice_index list u) → AreDifferent list
+rising-different list rising j k lj lk e = elim (cases_lt j k) [
+  | inl before ↦ absurd (omega (arith, rising j k before lk, e))
+  | inr from ↦ elim (cases_lt k j) [
+    | inl after ↦ absurd (omega (arith, rising k j after lj, e))
+    | inr upto ↦ omega arith
+  ]
+]
+
 -- A visit of the open cells alone: the others are settled.
 pub open-settled : {n cells values settled : ℕ} {sets rest : List ℕ} → IsOpenOf (has_in sets) n cells values → length sets ≡ n
     → ListsBits cells rest → length rest ≤ n → ((v : ℕ) → has_bit settled v ≡ (ltb v n && not (has_bit values v)))
@@ -120,7 +119,7 @@ pub open-settled : {n cells values settled : ℕ} {sets rest : List ℕ} → IsO
 open-settled {n} {cells} {values} {settled} {sets} {rest} o square list few is = record {
   few = omega (arith, square);
   within = λ t lt. omega (arith, o.cells_in (slice_index rest t) (list.set t lt), square);
-  different = list.different;
+  different = rising-different rest list.rising;
   some = λ k lk out. let c = o.closed k (omega (arith, square)) (off k out) in (c.value, c.alone c.value ∙ eq-eqb c.value c.value refl);
   counts = record {
     has = λ j v on has.
@@ -197,7 +196,7 @@ pub listed-none : (bits : ℕ) → ListsBitsBelow bits 0 []
 listed-none bits = record {
   set = λ t lt. absurd (omega arith);
   below = λ t lt. absurd (omega arith);
-  different = λ j k lj lk e. absurd (omega arith);
+  rising = λ t u le lu. absurd (omega arith);
   all = λ k on lt. absurd (omega arith);
 }
 
@@ -212,15 +211,9 @@ module _ (bits from : ℕ) (list : List ℕ) (l : ListsBitsBelow bits from list)
       | inl low ↦ omega (arith, first t low, l.below t low)
       | inr high ↦ omega (arith, last t (omega (arith, longer)))
     ];
-    different = λ i j li lj e. elim (cases_lt i (length list)) [
-      | inl low_i ↦ elim (cases_lt j (length list)) [
-        | inl low_j ↦ l.different i j low_i low_j (sym (first i low_i) ∙ e ∙ first j low_j)
-        | inr high ↦ absurd (omega (arith, first i low_i, l.below i low_i, last j (omega (arith, longer)), e))
-      ]
-      | inr high_i ↦ elim (cases_lt j (length list)) [
-        | inl low_j ↦ absurd (omega (arith, first j low_j, l.below j low_j, last i (omega (arith, longer)), e))
-        | inr high ↦ omega (arith, longer)
-      ]
+    rising = λ t u before lu. elim (cases_lt u (length list)) [
+      | inl low ↦ omega (arith, first t (omega arith), first u low, l.rising t u before low)
+      | inr high ↦ omega (arith, longer, first t (omega (arith, longer)), last u (omega (arith, longer)), l.below t (omega (arith, longer)))
     ];
     all = λ j set lt. elim (cases_lt j from) [
       | inl low ↦ let w = l.all j set low in (w.0, omega (arith, w.1, longer), first w.0 w.1 ∙ w.2)
@@ -244,7 +237,7 @@ module _ (bits from : ℕ) (list : List ℕ) (l : ListsBitsBelow bits from list)
   pub listed-all : (n : ℕ) → NoneIsSet bits from n → ((k : ℕ) → has_bit bits k ≡ true → k < n) → ListsBits bits list
   listed-all n none within = record {
     set = l.set;
-    different = l.different;
+    rising = l.rising;
     all = λ k on. elim (cases_lt k from) [ inl low ↦ l.all k on low | inr high ↦ absurd (none k high (within k on) on) ];
   }
 

@@ -18,5 +18,6 @@ pub mod Ways
 pub mod PeeledHouses
 pub mod OpenHouses
 pub mod OpenBoards
+pub mod OpenLaws
 pub mod QuickPairings
 pub mod Work

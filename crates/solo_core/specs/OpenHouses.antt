@@ -1,8 +1,8 @@
 -- Which cells and which values of a house are open: what a position keeps, so that a visit need not look at the others.
 use Rattle.std.specs.Prelude.{◌≡◌, ℕ, ◌<◌, ◌==◌, Bool, true, false, List, length, slice_index}
-use Rattle.solo_core.specs.Common.{AreDifferent, Candidates, IsBitsOf, has_bit}
+use Rattle.solo_core.specs.Common.{Candidates, IsBitsOf, has_bit}
 use Rattle.engine_core.specs.HouseSets.{AreBitsAt}
-use Rattle.solo_core.specs.PeeledHouses.{IsSingleSet, KeepsFillings}
+use Rattle.solo_core.specs.PeeledHouses.{IsOutside, IsSingleSet, KeepsFillings}
 use Rattle.solo_core.specs.declared.visits.open.OpenHouse.{OpenHouse}
 
 -- the k-th cell has the value v and no other
@@ -37,34 +37,25 @@ StaysOpenWith cell set old new =
     (has : ℕ → ℕ → Bool) (n value : ℕ) → IsOpenHouse has n old → cell < n → value < n
     → IsSingleSet set value → HasAlone has cell value → IsOpenHouse has n new
 
--- the list has the numbers whose bit is set, each once
+-- the list has the numbers whose bit is set, and they rise
 pub record ListsBits (bits : ℕ) (list : List ℕ) : Type 0 where
   pub set : (t : ℕ) → t < length list → has_bit bits (slice_index list t) ≡ true
-  pub different : AreDifferent list
+  pub rising : (t u : ℕ) → t < u → u < length list → slice_index list t < slice_index list u
   pub all : (k : ℕ) → has_bit bits k ≡ true
       → (t : ℕ) × (t < length list) × (slice_index list t ≡ k)
 
--- the open cells' sets, by their places, have these bits
-abbrev pub AreGathered : ℕ → Candidates → List ℕ → ℕ → List ℕ → Type 0
-AreGathered values K places cells row = (k : ℕ) → has_bit cells k ≡ true
-    → IsBitsOf (K (slice_index places k)) values (slice_index row k)
-
--- what stands for the others stays
-abbrev pub KeepsClosed : ℕ → List ℕ → List ℕ → Type 0
-KeepsClosed cells old new = (k : ℕ) → has_bit cells k ≡ false → slice_index new k ≡ slice_index old k
-
--- the list has the numbers below `from` whose bit is set, each once
+-- the same of the numbers below `from`
 pub record ListsBitsBelow (bits from : ℕ) (list : List ℕ) : Type 0 where
   pub set : (t : ℕ) → t < length list → has_bit bits (slice_index list t) ≡ true
   pub below : (t : ℕ) → t < length list → slice_index list t < from
-  pub different : AreDifferent list
+  pub rising : (t u : ℕ) → t < u → u < length list → slice_index list t < slice_index list u
   pub all : (k : ℕ) → has_bit bits k ≡ true → k < from
       → (t : ℕ) × (t < length list) × (slice_index list t ≡ k)
 
--- the row has the sets of the cells that aren't open, by their places, as bits
-abbrev pub HasClosedSets : ℕ → Candidates → List ℕ → ℕ → List ℕ → Type 0
-HasClosedSets values K places cells row = (k : ℕ) → k < length places → has_bit cells k ≡ false
-    → IsBitsOf (K (slice_index places k)) values (slice_index row k)
+-- of the cells that the list doesn't number, by their places, the sets are kept whole
+abbrev pub AreWholeOutside : ℕ → Candidates → List ℕ → List ℕ → List ℕ → Type 0
+AreWholeOutside values K places list kept = (k : ℕ) → k < length places
+    → IsOutside list k → IsBitsOf (K (slice_index places k)) values (slice_index kept k)
 
 -- of the sets of the house's cells, those values are kept that some filling without repeat shows
 pub record IsVisitedOpen (values : ℕ) (K : Candidates) (places kept : List ℕ) : Type 0 where

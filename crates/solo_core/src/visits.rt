@@ -7,6 +7,7 @@ pub(crate) mod graph;
 pub(crate) mod houses;
 pub(crate) mod leaving;
 pub(crate) mod mates;
+pub(crate) mod notes;
 pub(crate) mod open;
 pub(crate) mod peel;
 pub(crate) mod quick;
