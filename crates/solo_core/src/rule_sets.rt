@@ -17,7 +17,7 @@ use crate::start::write_start;
 use crate::visits::crossing::keep_crossed;
 use crate::visits::houses::keep_houses;
 use crate::visits::singles::keep_singles;
-use engine_core::{HouseRules, Noted, PlainNotes, RuleParts, RuleSet};
+use engine_core::{HouseRules, RuleParts, RuleSet};
 use gameid_core::SoloPuzzle;
 use grid_core::{Board, Grid, Pairing};
 use std::alloc::{AllocError, Global};
@@ -249,16 +249,4 @@ impl RuleSet for Crossings {
     fn accept(&self, _pairing: &mut Pairing, grid: &Grid) -> bool {
         check_solo(&self.puzzle, grid).is_none()
     }
-}
-
-impl Noted for Singles {
-    type Notes = PlainNotes;
-}
-
-impl Noted for SoloFillings {
-    type Notes = PlainNotes;
-}
-
-impl Noted for Crossings {
-    type Notes = PlainNotes;
 }
