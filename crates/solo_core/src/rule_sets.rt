@@ -42,7 +42,7 @@ pub struct Singles {
 /// Strikes what no filling of the house without repeat allows.
 #[derive(Drop)]
 pub struct SoloFillings {
-    puzzle: SoloPuzzle,
+    pub(crate) puzzle: SoloPuzzle,
     ghost is_solo: { IsSolo puzzle } by { Prim.hlevel props },
 }
 
