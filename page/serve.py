@@ -66,7 +66,7 @@ class Page(http.server.BaseHTTPRequestHandler):
         try:
             asked = fields(call, self.body(call))
             self.server.waiting.pop(self.request, None)
-            visitor = self.headers.get("X-Forwarded-For", "").rpartition(",")[2].strip()
+            visitor = self.headers.get_all("X-Forwarded-For", [""])[-1].rpartition(",")[2].strip()
             with self.server.turns.turn(visitor):
                 status, parts = 200, self.server.calls.answer(call, asked)
         except Refused as refused:

@@ -2,7 +2,7 @@
 // old file ever stands beside a new one. `page/static.py` writes the files and the version into this line:
 const VERSION = "", FILES = {};
 
-const PREFIX = "puzzles ", NAME = PREFIX + VERSION;
+const PREFIX = `puzzles ${registration.scope} `, NAME = PREFIX + VERSION;
 
 async function keepAll() {
   const cache = await caches.open(NAME);

@@ -66,15 +66,27 @@ async function tryEnd() {
 // The first press shows where to look, and the next one what stands there.
 export async function hint() {
   const { play } = table, { puzzle, state, version } = play;
-  if (looked?.play === play && looked.version === version) return tell(looked.told);
+  if (looked?.play === play && looked.version === version) return next();
   const told = await answer(() => hinted(puzzle, state), { ofBoard: true });
   if (!told) return undefined;
   if (told.verdict) return say(words.noHint(words.said[told.verdict]), "bad");
   if (told.kind === "done") return check();
   if (!told.reasons.length) return tell(told);
-  looked = { play, version, told };
-  point({ house: new Set(told.look.house), isHint: true });
-  return say(words.look(worded(puzzle, told.look.why)), "", words.said.hintMore);
+  const { before = [] } = told, look = before.length ? { ...before[0], house: before[0].house } : told.look;
+  looked = { play, version, told, before };
+  point({ house: new Set(look.house), isHint: true });
+  return say(words.look(worded(puzzle, look.why)), "", before.length ? words.stepsMore(before.length + 1) : words.said.hintMore);
+}
+
+// The next step of a hint that has several: what it looks at, and the cells of which it takes numbers away. The last one is the
+// cell itself.
+function next() {
+  const { told, before } = looked, { puzzle } = table.play, [step] = before;
+  if (!step) return tell({ ...told, reasons: told.kind === "step" ? told.reasons.slice(-1) : told.reasons });
+  looked = { ...looked, before: before.slice(1) };
+  point({ marked: marks(step.struck, "marked"), house: new Set(step.house), isHint: true });
+  const all = told.before.length + 1;
+  return say(words.step(all - before.length, all, worded(puzzle, step.why), puzzle.game), "", words.said.nextStep);
 }
 
 async function hinted(puzzle, state) {
@@ -87,7 +99,7 @@ async function hinted(puzzle, state) {
 function tell({ kind, cells, values = [], house, reasons, more, sign }) {
   const { puzzle } = table.play, isWrong = kind === "wrong";
   looked = undefined;
-  choose(cells[0], false);
+  choose(cells[0], document.activeElement?.classList.contains("cell"));
   const signOf = (value) => (puzzle.block ? String(value) : value ? sign : "•");
   point({ marked: marks(cells, isWrong ? "wrong" : "hint"), house: new Set(house), isHint: !isWrong,
     shown: new Map(values.map((value, k) => [cells[k], signOf(value)])) });

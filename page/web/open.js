@@ -30,7 +30,7 @@ const parts = (name) => name.match(/^(\w*)\/(.*)$/s) || [name, "", name];
 
 // What a player has written: a link, a sudoku of 81 characters, or an ID.
 function meant(text, game) {
-  const [, linked, id] = parts(plain(text.match(/#(\w+(\/|%2F).*)$/is)?.[1] || ""));
+  const [, linked, id] = parts(plain(text.match(/(?:^|#)([a-z]+(\/|%2F).*)$/is)?.[1] || ""));
   const cells = text.replace(/\s/g, "");
   if (isGame(linked)) return [linked, id.trim()];
   if (/^[\d.]{81}$/.test(cells)) return ["solo", written("3x3", [...cells].map((sign) => sign.replace(/[.0]/, "")))];
@@ -40,6 +40,7 @@ function meant(text, game) {
 // If the game that is chosen refuses an ID, another one may take it.
 export async function enter() {
   const chosen = $("game").value, [game, text] = meant($("id").value.trim(), chosen);
+  say("");
   if (await open(game, text) !== false || game !== chosen) return;
   const fault = [...$("fault").childNodes];
   for (const other of Object.keys(GAMES).filter((name) => name !== game)) {

@@ -30,7 +30,8 @@ export function hint(puzzle, signs, solution) {
     ({ kind, cells, values: cells.map((cell) => values[cell]), sign: rules.sign, ...more });
   if (found && isRight(found.steps, cans, values)) {
     const { steps, cells } = found, reasons = steps.map(({ why }) => why);
-    return told("step", cells, { house: steps.at(-1).cells, reasons, look: lookOf(rules, steps) });
+    const before = steps.slice(0, -1).map(({ why, cells: house, strikes }) => ({ why, house, struck: [...strikes].map(cellOf) }));
+    return told("step", cells, { house: steps.at(-1).cells, reasons, look: lookOf(rules, steps), before });
   }
   const now = rules.cans(signs), plain = tried(rules, now, values, blank);
   const trial = plain || (found ? undefined : tried(rules, cans, values, blank)); // with all that steps take away

@@ -75,6 +75,8 @@ const REASONS = {
     `${BREAKS[broken.kind](broken)}`).join("; ")}.`,
 };
 
+export const why = (reason, game) => REASONS[reason.kind](reason, game);
+
 // What breaks, if a cell has another value.
 const BREAKS = {
   none: ({ cell }) => `bleibt für ${at(cell)} keine Zahl`,

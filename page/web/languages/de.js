@@ -1,5 +1,5 @@
 // The words of the page in German. The program's own names stand in GRADES, BROKEN and `refusals`.
-import { at, clue, count, hint, line, listed, LOOKS, NEEDS, several } from "./de-hints.js";
+import { at, clue, count, hint, line, listed, LOOKS, NEEDS, several, why } from "./de-hints.js";
 
 const GAMES = {
   solo: { name: "Solo", rule: "In jeder Zeile, jeder Spalte und jedem Block steht jede Zahl einmal.",
@@ -66,6 +66,8 @@ export default {
   picture: (name) => `Richtig. Das Rätsel ist gelöst: ${name}.`,
   rule: ({ game, crossed }) => (crossed ? GAMES[game].crossed : GAMES[game].rule),
   look: (look) => (LOOKS[look.kind] || (() => "Die markierten Felder."))(look),
+  step: (k, all, reason, game) => `Schritt ${k} von ${all}: ${why(reason, game)}`,
+  stepsMore: (all) => `${all} Schritte führen zu einem Feld. Noch einmal Tipp zeigt den ersten.`,
   shown: (sign) => `hier ${sign}`,
   left: (number, left) => `${number}, noch ${left}`,
   held: (number) => `Jedes Feld, das nun gewählt wird, bekommt ${number}. Noch einmal ${number} beendet das.`,
@@ -134,6 +136,7 @@ export default {
     fillFirst: "Darum ist kein einzelnes Feld richtig oder falsch. Fülle erst alle Felder.",
     correct: "Richtig. Das Rätsel ist gelöst.", noMistake: "Bis jetzt kein Fehler.",
     filledWrong: "Jedes Feld ist gefüllt, aber etwas stimmt nicht. Prüfen zeigt wo.",
+    nextStep: "Noch einmal Tipp zeigt den nächsten Schritt.",
     hintMore: "Noch einmal Tipp zeigt das Feld.",
     startedOver: "Alles ist wieder leer. Zurück bringt es wieder.",
     marked: "Gemerkt. Zur Marke führt hierher zurück.",

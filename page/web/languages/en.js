@@ -1,5 +1,5 @@
 // The words of the page in English. The program's own names stand in GRADES, BROKEN and `refusals`.
-import { at, clue, count, hint, line, listed, LOOKS, NEEDS, several } from "./en-hints.js";
+import { at, clue, count, hint, line, listed, LOOKS, NEEDS, several, why } from "./en-hints.js";
 
 const GAMES = {
   solo: { name: "Solo", rule: "Each row, column and block has each number once.",
@@ -63,6 +63,8 @@ export default {
   picture: (name) => `Correct. The puzzle is solved: ${name}.`,
   rule: ({ game, crossed }) => (crossed ? GAMES[game].crossed : GAMES[game].rule),
   look: (look) => (LOOKS[look.kind] || (() => "Look at the marked cells."))(look),
+  step: (k, all, reason, game) => `Step ${k} of ${all}: ${why(reason, game)}`,
+  stepsMore: (all) => `${all} steps lead to a cell. Press Hint again for the first.`,
   shown: (sign) => `here ${sign}`,
   left: (number, left) => `${number}, ${left} left`,
   held: (number) => `Each cell that is chosen now gets ${number}. Press ${number} again to end that.`,
@@ -128,6 +130,7 @@ export default {
     fillFirst: "So no cell alone is right or wrong. Fill all cells first.",
     correct: "Correct. The puzzle is solved.", noMistake: "No mistake so far.",
     filledWrong: "Each cell is filled, but something is wrong. Check shows where.",
+    nextStep: "Press Hint again for the next step.",
     hintMore: "Press Hint again for the cell.", startedOver: "All is blank again. Undo brings it back.",
     marked: "Marked. Back to the mark returns to this.",
     keptBefore: "The puzzle before is kept: Back returns to it.", copied: "The link is copied.",
