@@ -2,7 +2,7 @@
 import contextlib
 import tempfile
 
-from . import comfort, kept, looks, player, speed
+from . import comfort, kept, looks, paper, player, speed
 from .driver import By, Keys, Page, WebDriverException
 
 DESK = (1280, 800)
@@ -20,7 +20,7 @@ HOSTILE = ["--budget=5", "--", "<img src=x onerror=document.title='hurt'>", "';\
 
 def try_page(server, tally):
     """The page over its server, in Chromium."""
-    parts = [try_games, kept.try_kept, player.try_player, comfort.try_comfort, looks.try_looks, speed.try_speed]
+    parts = [try_games, kept.try_kept, player.try_player, comfort.try_comfort, looks.try_looks, paper.try_paper, speed.try_speed]
     with opened(server.url, tally) as page:
         for part in parts:
             part(page, server, tally)

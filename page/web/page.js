@@ -8,13 +8,14 @@ import { fill, words } from "./language.js";
 import { generate, picture, today } from "./make.js";
 import { begun, change, enter, go } from "./open.js";
 import * as panels from "./panels.js";
+import * as paper from "./paper.js";
 import { follow, setLevels, tellWanted } from "./show.js";
 import { allNotes, back, erase, mark, redo, startOver, undo } from "./acts.js";
 import { $, point, table } from "./table.js";
 
-const { check, hint, solve, grade } = answers, { share, paper } = panels;
+const { check, hint, solve, grade } = answers, { share } = panels;
 const clicks = { check, hint, solve, grade, generate, fresh: generate, picture, today, enter, undo, redo, erase, allNotes, mark, back,
-  startOver, share, paper };
+  startOver, share, paper: () => print() };
 const changes = { game: change, size: setLevels, difficulty: tellWanted, begun };
 
 fill();
@@ -26,6 +27,7 @@ table.changed = answers.watch;
 hands.listen();
 keys.listen();
 panels.lay();
+paper.listen();
 clock.begin();
 follow(() => point());
 addEventListener("popstate", go);

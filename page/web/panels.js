@@ -50,5 +50,3 @@ export async function share() {
   const isCopied = await navigator.clipboard?.writeText(link.url).then(() => true, () => false);
   say(isCopied ? words.said.copied : words.said.notCopied);
 }
-
-export const paper = () => print();

@@ -68,6 +68,7 @@ export default {
   look: (look) => (LOOKS[look.kind] || (() => "Die markierten Felder."))(look),
   step: (k, all, reason, game) => `Schritt ${k} von ${all}: ${why(reason, game)}`,
   stepsMore: (all) => `${all} Schritte führen zu einem Feld. Noch einmal Tipp zeigt den ersten.`,
+  sheet: (k, all, { x, y }) => `Blatt ${k} von ${all}: Spalten ${x[0] + 1} bis ${x[1]}, Zeilen ${y[0] + 1} bis ${y[1]}`,
   shown: (sign) => `hier ${sign}`,
   left: (number, left) => `${number}, noch ${left}`,
   held: (number) => `Jedes Feld, das nun gewählt wird, bekommt ${number}. Noch einmal ${number} beendet das.`,

@@ -65,6 +65,7 @@ export default {
   look: (look) => (LOOKS[look.kind] || (() => "Look at the marked cells."))(look),
   step: (k, all, reason, game) => `Step ${k} of ${all}: ${why(reason, game)}`,
   stepsMore: (all) => `${all} steps lead to a cell. Press Hint again for the first.`,
+  sheet: (k, all, { x, y }) => `Sheet ${k} of ${all}: columns ${x[0] + 1} to ${x[1]}, rows ${y[0] + 1} to ${y[1]}`,
   shown: (sign) => `here ${sign}`,
   left: (number, left) => `${number}, ${left} left`,
   held: (number) => `Each cell that is chosen now gets ${number}. Press ${number} again to end that.`,
