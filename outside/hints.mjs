@@ -1,8 +1,10 @@
 // The page's reasoner (page/web/hints/) for `outside/hints.py`: a request in JSON on each line of the input, and an answer on
 // each line of the output.
 import readline from "node:readline";
+import { checkPresses, checkSolo, checkTrial, looksNear } from "./hints_check.mjs";
+import de from "../page/web/languages/de.js";
 import en from "../page/web/languages/en.js";
-import { hint, rulesOf } from "../page/web/hints/hint.js";
+import { hint, rulesOf, valueIn } from "../page/web/hints/hint.js";
 import { SIMPLE, without } from "../page/web/hints/steps.js";
 import { read, scan, start } from "../page/web/puzzle.js";
 import { worded } from "../page/web/worded.js";
@@ -26,19 +28,30 @@ function settledBy(puzzle) {
 
 const now = () => (process.cpuUsage().user + process.cpuUsage().system) / 1000;
 
+// What is wrong with a hint, as hints_check.mjs sees it.
+function faultsOf(puzzle, signs, told, values) {
+  const words = [en, de].flatMap((each) => checkPresses(each, puzzle, told));
+  const reasons = puzzle.block ? checkSolo(puzzle, signs, told, values) : looksNear(puzzle, signs, told);
+  return [...words, ...reasons, ...checkTrial(puzzle, signs, told)];
+}
+
 // All hints from the empty board to the end: their words, how many are of each kind, and their milliseconds of the processor.
 function played(puzzle, solution) {
-  const signs = start(puzzle), hints = [], times = [];
+  const signs = start(puzzle), hints = [], times = [], values = solution.map((sign) => valueIn(puzzle, rulesOf(puzzle), sign));
+  let last;
   for (;;) {
-    const begun = now(), told = hint(puzzle, signs, solution);
+    const begun = now(), told = hint(puzzle, signs, solution, { last });
     times.push(now() - begun);
     if (told.kind === "done") return { hints, times, isDone: true };
-    const isHarder = told.reasons.some(({ kind }) => !OF_GRADES.includes(kind));
+    const reasons = told.steps.map(({ why }) => why), isHarder = reasons.some(({ kind }) => !OF_GRADES.includes(kind));
     const shown = told.values.map((value) => (puzzle.block ? String(value) : value ? told.sign : "x"));
-    const words = en.hint(worded(puzzle, told), puzzle.game), look = told.look ? en.look(worded(puzzle, told.look.why)) : "";
-    hints.push({ kind: told.kind === "step" && isHarder ? "harder" : told.kind, cells: told.cells, signs: shown, words, look });
+    const words = en.hint(worded(puzzle, { ...told, reasons }), puzzle.game);
+    const look = told.look ? en.look(worded(puzzle, told.look.why)) : "";
+    hints.push({ kind: told.kind === "step" && isHarder ? "harder" : told.kind, cells: told.cells, signs: shown, words, look,
+      steps: told.steps.length, faults: faultsOf(puzzle, signs, told, values) });
     if (!told.cells.length || told.cells.some((cell) => signs[cell] !== ".")) return { hints, times, isDone: false };
     told.cells.forEach((cell, k) => { signs[cell] = shown[k]; });
+    [last] = told.cells;
   }
 }
 

@@ -5,6 +5,9 @@ The rules of the hints (page/web/hints/) are a program of its own, which Debian'
 puzzles of seeds from 1 on, until 50 have a rule set as their grade. Of each puzzle these have to be so:
 - each hint is right: what it says of a cell stands in the only solution;
 - each hint has words, and all but a guess tell first where to look;
+- of a hint's steps each holds, by a reading of its own (hints_check.mjs), none can be left out, and each is told by itself;
+- where one step is enough one is told, and of these the simplest: the last digit of a house, a number's one place in a block,
+  a cell's one number, a number's one place in a line;
 - if the grade is a rule set, the steps that it knows lead to the end; if it is `search n` they don't;
 - the weakest rule set that settles the puzzle by these rules is the grade.
 Prints a table; the exit status is 1 if anything differs, and 2 if something that it needs isn't there.
@@ -60,6 +63,8 @@ def compare(text, grid, grade, told):
                 raise Fault(f"{text}: {hint}")
         if not hint["words"] or not (hint["look"] or hint["kind"] == "guess") or hint["kind"] not in KINDS:
             raise Fault(f"{text}: a hint {hint}")
+        if hint["faults"]:
+            raise Fault(f"{text}: {hint['faults'][:3]} of {hint['words']}")
     if not told["isDone"]:
         raise Fault(f"{text}: the hints don't come to the end")
     kinds = collections.Counter(hint["kind"] for hint in told["hints"])

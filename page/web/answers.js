@@ -1,4 +1,5 @@
 // What a player asks of a puzzle: is it right so far, what comes next, what is the solution, how hard is it.
+import { strike } from "./acts.js";
 import { answer, ask, isBusy, reason } from "./ask.js";
 import { Board, element } from "./board.js";
 import { solved } from "./clock.js";
@@ -6,10 +7,10 @@ import { words } from "./language.js";
 import { gradeOf, levelOf } from "./levels.js";
 import { pictureOf } from "./pictures.js";
 import { call } from "./program.js";
-import { isFilled, places, print, scan } from "./puzzle.js";
+import { presses } from "./presses.js";
+import { isFilled, noted, places, print, scan } from "./puzzle.js";
 import { mayBeWhole } from "./standing.js";
 import { $, choose, point, say, table } from "./table.js";
-import { worded } from "./worded.js";
 
 const PAUSE = 300; // milliseconds after a step, before what may be the end is checked
 let waiting, looked; // what a hint has pointed out before it tells all
@@ -25,9 +26,11 @@ export async function check() {
   if (told.verdict !== "one") return void checkRules(words.said[told.verdict]);
   const right = scan(puzzle, told.grids[0]), isRight = (sign, place) => sign.replace("•", ".") === right[place];
   const wrong = state.flatMap((sign, place) => (isFilled(sign) && !isRight(sign, place) ? place : []));
+  const lacking = state.flatMap((sign, place) => (noted(sign)?.includes(Number(right[place])) === false ? place : []));
   if (!wrong.length && state.every((sign, place) => isFilled(sign) || right[place] === ".")) return void finish();
-  point({ marked: marks(wrong, "wrong") });
-  if (wrong.length) say(words.wrong(wrong.length), "bad", words.because.wrong);
+  point({ marked: new Map([...marks(lacking, "wrongNote"), ...marks(wrong, "wrong")]) });
+  const said = [wrong.length && words.wrong(wrong.length), lacking.length && words.wrongNotes(lacking.length)].filter(Boolean);
+  if (said.length) say(said.join(" "), "bad", words.because.wrong);
   else say(words.said.noMistake, "good", words.because.noMistake);
 }
 
@@ -63,48 +66,44 @@ async function tryEnd() {
   else if (told && puzzle.block) say(words.said.filledWrong, "bad");
 }
 
-// The first press shows where to look, and the next one what stands there.
+// The first press shows where to look, each next one a step, and the last one what stands there. What a step has struck goes out
+// of the player's notes.
 export async function hint() {
   const { play } = table, { puzzle, state, version } = play;
-  if (looked?.play === play && looked.version === version) return next();
+  if (looked?.play === play && looked.version === version && looked.open.length) return next();
   const told = await answer(() => hinted(puzzle, state), { ofBoard: true });
   if (!told) return undefined;
   if (told.verdict) return say(words.noHint(words.said[told.verdict]), "bad");
   if (told.kind === "done") return check();
-  if (!told.reasons.length) return tell(told);
-  const { before = [] } = told, look = before.length ? { ...before[0], house: before[0].house } : told.look;
-  looked = { play, version, told, before };
-  point({ house: new Set(look.house), isHint: true });
-  return say(words.look(worded(puzzle, look.why)), "", before.length ? words.stepsMore(before.length + 1) : words.said.hintMore);
+  looked = { play, version, open: presses(words, puzzle, told) };
+  if (told.kind !== "wrong") play.hints += 1;
+  return next();
 }
 
-// The next step of a hint that has several: what it looks at, and the cells of which it takes numbers away. The last one is the
-// cell itself.
-function next() {
-  const { told, before } = looked, { puzzle } = table.play, [step] = before;
-  if (!step) return tell({ ...told, reasons: told.kind === "step" ? told.reasons.slice(-1) : told.reasons });
-  looked = { ...looked, before: before.slice(1) };
-  point({ marked: marks(step.struck, "marked"), house: new Set(step.house), isHint: true });
-  const all = told.before.length + 1;
-  return say(words.step(all - before.length, all, worded(puzzle, step.why), puzzle.game), "", words.said.nextStep);
+function next(isAll = false) {
+  if (looked.strikes) strike(looked.strikes);
+  if (isAll) looked.open = looked.open.slice(-1);
+  const [press, ...open] = looked.open, { text, note, isWrong, focus, house, witness = [], marked, struck = [], shown, strikes } = press;
+  looked = { ...looked, version: looked.play.version, open, strikes };
+  if (focus !== undefined) choose(focus, document.activeElement?.classList.contains("cell"));
+  point({ marked: new Map(marked), house: new Set(house), witness: new Set(witness), struck: new Map(struck), shown: new Map(shown),
+    isHint: !isWrong });
+  say(text, isWrong ? "bad" : "", note);
+  if (open.length > 3) $("answer").append(rest());
+}
+
+// A button that leaves the steps out.
+function rest() {
+  const made = element("button", { class: "rest" }, words.page.rest);
+  made.addEventListener("click", () => next(true));
+  return made;
 }
 
 async function hinted(puzzle, state) {
   const solved = await call("solve", named());
   if (solved.verdict !== "one") return solved;
   const signs = state.map((sign) => (isFilled(sign) ? sign.replace("•", "x") : "."));
-  return reason("hint", puzzle, signs, scan(puzzle, solved.grids[0]));
-}
-
-function tell({ kind, cells, values = [], house, reasons, more, sign }) {
-  const { puzzle } = table.play, isWrong = kind === "wrong";
-  looked = undefined;
-  choose(cells[0], document.activeElement?.classList.contains("cell"));
-  const signOf = (value) => (puzzle.block ? String(value) : value ? sign : "•");
-  point({ marked: marks(cells, isWrong ? "wrong" : "hint"), house: new Set(house), isHint: !isWrong,
-    shown: new Map(values.map((value, k) => [cells[k], signOf(value)])) });
-  const told = words.hint(worded(puzzle, { kind, cells, values, reasons, more }), puzzle.game);
-  say(told, isWrong ? "bad" : "", words.because[kind]);
+  return reason("hint", puzzle, signs, scan(puzzle, solved.grids[0]), { notes: state.map(noted), last: table.play.last });
 }
 
 export async function solve() {

@@ -72,6 +72,8 @@ export const around = (p, place) => near(p, place, [...SIDES, ...CORNERS]);
 
 export const start = (p) => p.fixed.map((sign) => sign || ".");
 export const isFilled = (sign) => sign[0] !== "." && sign[0] !== "'";
+// The numbers of a cell's notes, if it has some.
+export const noted = (sign) => (sign[0] === "'" ? sign.slice(1).split(" ").map(Number) : undefined);
 export const isNumber = (sign) => sign >= "0" && sign < ":";
 
 export const scan = (p, rows) => rows.flatMap((row) => row.split(p.block ? " " : ""));

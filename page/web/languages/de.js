@@ -1,5 +1,5 @@
 // The words of the page in German. The program's own names stand in GRADES, BROKEN and `refusals`.
-import { at, clue, count, hint, line, listed, LOOKS, NEEDS, several, why } from "./de-hints.js";
+import { at, breaks, clue, count, follows, hint, line, listed, LOOKS, NEEDS, several, suppose, why } from "./de-hints.js";
 
 const GAMES = {
   solo: { name: "Solo", rule: "In jeder Zeile, jeder Spalte und jedem Block steht jede Zahl einmal.",
@@ -58,23 +58,26 @@ function keys(puzzle, isTouched) {
 
 const PROVED = "Vom Programm bewiesen: ";
 export default {
-  language: "Deutsch", games: GAMES, levels: LEVELS, line, size, kind, keys, brokenRule, hint,
+  language: "Deutsch", games: GAMES, levels: LEVELS, line, size, kind, keys, brokenRule, hint, suppose, follows, breaks, why,
   columns: "Spalten", none: "keine", clue: "Hinweis", notes: "Notizen", corners: "in den Ecken",
   signs: { ".": "leer", "•": "Punkt", "#": "schwarz", O: "Lampe", "^": "Zelt", T: "Baum" },
   states: { given: "vorgegeben", met: "erfüllt", lit: "beleuchtet", broken: "gegen die Regeln",
-    wrong: "falsch", marked: "markiert", hint: "Tipp", differs: "verschieden" },
+    wrong: "falsch", wrongNote: "falsche Notizen", marked: "markiert", hint: "Tipp", differs: "verschieden", struck: "gestrichen", tried: "ausprobiert",
+    then: "folgt", witness: "schließt die anderen aus" },
   picture: (name) => `Richtig. Das Rätsel ist gelöst: ${name}.`,
   rule: ({ game, crossed }) => (crossed ? GAMES[game].crossed : GAMES[game].rule),
   look: (look) => (LOOKS[look.kind] || (() => "Die markierten Felder."))(look),
-  step: (k, all, reason, game) => `Schritt ${k} von ${all}: ${why(reason, game)}`,
+  step: (k, all, told) => `Schritt ${k} von ${all}. ${told}`,
   stepsMore: (all) => `${all} Schritte führen zu einem Feld. Noch einmal Tipp zeigt den ersten.`,
   sheet: (k, all, { x, y }) => `Blatt ${k} von ${all}: Spalten ${x[0] + 1} bis ${x[1]}, Zeilen ${y[0] + 1} bis ${y[1]}`,
+  struck: (numbers) => `nicht ${numbers}`,
   shown: (sign) => `hier ${sign}`,
   left: (number, left) => `${number}, noch ${left}`,
   held: (number) => `Jedes Feld, das nun gewählt wird, bekommt ${number}. Noch einmal ${number} beendet das.`,
   solution: (k) => `Lösung ${k}`,
   differ: (cells) => `Zwei stehen unten. Sie unterscheiden sich in den ${cells} markierten Feldern.`,
   wrong: (cells) => `${count(cells, "Feld ist", "Felder sind")} falsch.`.replace(/^1 /, "Ein "),
+  wrongNotes: (cells) => `In den Notizen von ${count(cells, "Feld", "Feldern")} fehlt seine Zahl.`.replace(/von 1 /, "von einem "),
   noHint: (said) => `${said} Darum gibt es keinen Tipp.`,
   noPuzzle: (seed) => `Aus der Nummer ${seed} wurde kein Rätsel. Versuche eine andere.`,
   refused: (said) => `Diese ID wird abgelehnt: ${said}.`,
@@ -138,6 +141,7 @@ export default {
     correct: "Richtig. Das Rätsel ist gelöst.", noMistake: "Bis jetzt kein Fehler.",
     filledWrong: "Jedes Feld ist gefüllt, aber etwas stimmt nicht. Prüfen zeigt wo.",
     nextStep: "Noch einmal Tipp zeigt den nächsten Schritt.",
+    byNotes: "Das beruht auf deinen Notizen.",
     hintMore: "Noch einmal Tipp zeigt das Feld.",
     startedOver: "Alles ist wieder leer. Zurück bringt es wieder.",
     marked: "Gemerkt. Zur Marke führt hierher zurück.",
@@ -151,7 +155,7 @@ export default {
     hint: "Tipp", check: "Prüfen", solve: "Lösen",
     grade: "Grad", allNotes: "Alle Notizen", mark: "Merken", back: "Zur Marke", startOver: "Von vorn",
     share: "Teilen", paper: "Drucken",
-    solutions: "Lösungen", make: "Neues Rätsel", size: "Größe", difficulty: "Schwierigkeit", seed: "Nummer",
+    rest: "Zum Ende", solutions: "Lösungen", make: "Neues Rätsel", size: "Größe", difficulty: "Schwierigkeit", seed: "Nummer",
     any: "beliebig", picture: "Ein Bild", generate: "Neues Rätsel",
     open: "Ein Rätsel öffnen", begun: "Weiter mit", choose: "wählen",
     id: "Eine ID, ein Link, oder ein Sudoku aus 81 Zeichen", enter: "Öffnen",

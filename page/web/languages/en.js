@@ -1,5 +1,5 @@
 // The words of the page in English. The program's own names stand in GRADES, BROKEN and `refusals`.
-import { at, clue, count, hint, line, listed, LOOKS, NEEDS, several, why } from "./en-hints.js";
+import { at, breaks, clue, count, follows, hint, line, listed, LOOKS, NEEDS, several, suppose, why } from "./en-hints.js";
 
 const GAMES = {
   solo: { name: "Solo", rule: "Each row, column and block has each number once.",
@@ -55,16 +55,18 @@ function keys(puzzle, isTouched) {
 
 const PROVED = "Proved by the program: ";
 export default {
-  language: "English", games: GAMES, levels: LEVELS, line, size, kind, keys, brokenRule, hint,
+  language: "English", games: GAMES, levels: LEVELS, line, size, kind, keys, brokenRule, hint, suppose, follows, breaks, why,
   columns: "columns", none: "none", clue: "clue", notes: "notes", corners: "in the corners",
   signs: { ".": "blank", "•": "dot", "#": "black", O: "bulb", "^": "tent", T: "tree" },
   states: { given: "given", met: "met", lit: "lit", broken: "against the rules", wrong: "wrong",
-    marked: "marked", hint: "hint", differs: "differs" },
+    wrongNote: "wrong notes", marked: "marked", hint: "hint", differs: "differs", struck: "struck", tried: "tried out", then: "follows",
+    witness: "bars the others" },
   picture: (name) => `Correct. The puzzle is solved: ${name}.`,
   rule: ({ game, crossed }) => (crossed ? GAMES[game].crossed : GAMES[game].rule),
   look: (look) => (LOOKS[look.kind] || (() => "Look at the marked cells."))(look),
-  step: (k, all, reason, game) => `Step ${k} of ${all}: ${why(reason, game)}`,
+  step: (k, all, told) => `Step ${k} of ${all}. ${told}`,
   stepsMore: (all) => `${all} steps lead to a cell. Press Hint again for the first.`,
+  struck: (numbers) => `not ${numbers}`,
   sheet: (k, all, { x, y }) => `Sheet ${k} of ${all}: columns ${x[0] + 1} to ${x[1]}, rows ${y[0] + 1} to ${y[1]}`,
   shown: (sign) => `here ${sign}`,
   left: (number, left) => `${number}, ${left} left`,
@@ -72,6 +74,7 @@ export default {
   solution: (k) => `Solution ${k}`,
   differ: (cells) => `Two are below. They differ in the ${cells} marked cells.`,
   wrong: (cells) => `${count(cells, "cell is", "cells are")} wrong.`.replace(/^1 /, "One "),
+  wrongNotes: (cells) => `The notes of ${count(cells, "cell lack", "cells lack")} its number.`.replace(/of 1 /, "of one "),
   noHint: (said) => `${said} So there is no hint.`,
   noPuzzle: (seed) => `No puzzle came of seed ${seed}. Try another.`,
   refused: (said) => `This ID is refused: ${said}.`,
@@ -132,6 +135,7 @@ export default {
     correct: "Correct. The puzzle is solved.", noMistake: "No mistake so far.",
     filledWrong: "Each cell is filled, but something is wrong. Check shows where.",
     nextStep: "Press Hint again for the next step.",
+    byNotes: "This rests on your notes.",
     hintMore: "Press Hint again for the cell.", startedOver: "All is blank again. Undo brings it back.",
     marked: "Marked. Back to the mark returns to this.",
     keptBefore: "The puzzle before is kept: Back returns to it.", copied: "The link is copied.",
@@ -144,7 +148,7 @@ export default {
     hint: "Hint", check: "Check", solve: "Solve",
     grade: "Grade", allNotes: "All notes", mark: "Mark this", back: "Back to mark", startOver: "Start over",
     share: "Share", paper: "Print",
-    solutions: "Solutions", make: "New puzzle", size: "Size", difficulty: "Difficulty", seed: "Seed",
+    rest: "To the end", solutions: "Solutions", make: "New puzzle", size: "Size", difficulty: "Difficulty", seed: "Seed",
     any: "any", picture: "A picture", generate: "New puzzle",
     open: "Open a puzzle", begun: "Go on with", choose: "choose",
     id: "An ID, a link, or a sudoku of 81 characters", enter: "Open",
