@@ -128,7 +128,7 @@ def offline(page, server, tally):
     for game, size, seed, black in browser.GAMES:
         made = browser.made(server, game, size, seed, black)
         page.open(game, made["id"], is_fresh=False)
-        tally.same(f"solve of {game} without a network", page.answer("#solve"), "The only solution is below.")
+        tally.same(f"solve of {game} without a network", page.solution(), "The only solution is below.")
         tally.true(f"hint in {game} without a network", "Proved by the program" in page.hint()[1])
         browser.write(page, game, browser.signs_of(game, made["grids"][0]), len(made["grids"][0]))
         page.until_said("Correct. The puzzle is solved.")

@@ -148,3 +148,8 @@ class Page:
             self.until("tells the next step", lambda before=before: self.text("#answer") != before)
             told.append(self.text("#answer"))
         return told
+
+    def solution(self):
+        """What Solve says once it was pressed again; the first press only asks."""
+        told = self.answer("#solve")
+        return self.answer("#solve") if "Press Solve again" in told else told

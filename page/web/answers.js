@@ -13,7 +13,7 @@ import { mayBeWhole } from "./standing.js";
 import { $, choose, point, say, table } from "./table.js";
 
 const PAUSE = 300; // milliseconds after a step, before what may be the end is checked
-let waiting, looked; // what a hint has pointed out before it tells all
+let waiting, looked, asked; // what a hint has still to tell, and of which puzzle Solve was pressed once
 
 const named = () => ({ game: table.play.puzzle.game, id: table.play.id });
 const marks = (cells, why) => new Map(cells.map((place) => [place, why]));
@@ -48,6 +48,13 @@ function finish() {
   table.board.grid.classList.add("done");
   solved(table.play);
   say(drawn ? words.picture(words.pictures[drawn]) : words.said.correct, "good");
+}
+
+// The words go, and what they pointed out.
+export function close() {
+  looked = undefined;
+  say("");
+  point({});
 }
 
 // After a step that may be the last the board is checked without being asked.
@@ -106,8 +113,14 @@ async function hinted(puzzle, state) {
   return reason("hint", puzzle, signs, scan(puzzle, solved.grids[0]), { notes: state.map(noted), last: table.play.last });
 }
 
+// The first press only asks, for what was shown doesn't count as solved.
 export async function solve() {
-  const { play } = table, { puzzle } = play, told = await ask("solve", named());
+  const { play } = table, { puzzle } = play;
+  if (asked !== play && !play.isShown) {
+    asked = play;
+    return say(words.said.solveAsk, "");
+  }
+  const told = await ask("solve", named());
   if (!told || play !== table.play) return;
   const grids = told.grids.map((rows) => scan(puzzle, rows)), [first, second] = grids;
   const differ = second ? first.flatMap((sign, place) => (sign === second[place] ? [] : place)) : [];
@@ -117,7 +130,8 @@ export async function solve() {
     board.paint({ state: signs, extras: {} }, { marked: marks(differ, "differs") });
     return element("figure", {}, board.grid, element("figcaption", {}, words.solution(k + 1)));
   }));
-  $("solutions").scrollIntoView({ block: "nearest", behavior: "smooth" });
+  const isStill = matchMedia("(prefers-reduced-motion: reduce)").matches;
+  $("solutions").scrollIntoView({ block: "nearest", behavior: isStill ? "auto" : "smooth" });
   say(words.said[told.verdict] + (second ? ` ${words.differ(differ.length)}` : ""));
 }
 

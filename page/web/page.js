@@ -13,8 +13,8 @@ import { follow, setLevels, tellWanted } from "./show.js";
 import { allNotes, back, erase, mark, redo, startOver, undo } from "./acts.js";
 import { $, point, table } from "./table.js";
 
-const { check, hint, solve, grade } = answers, { share } = panels;
-const clicks = { check, hint, solve, grade, generate, fresh: generate, picture, today, enter, undo, redo, erase, allNotes, mark, back,
+const { check, close, hint, solve, grade } = answers, { share } = panels;
+const clicks = { check, close, hint, solve, grade, generate, fresh: generate, picture, today, enter, undo, redo, erase, allNotes, mark, back,
   startOver, share, paper: () => print() };
 const changes = { game: change, size: setLevels, difficulty: tellWanted, begun };
 

@@ -58,7 +58,7 @@ function keys(puzzle, isTouched) {
 
 const PROVED = "Vom Programm bewiesen: ";
 export default {
-  language: "Deutsch", games: GAMES, levels: LEVELS, line, size, kind, keys, brokenRule, hint, suppose, follows, breaks, why,
+  games: GAMES, levels: LEVELS, line, size, kind, keys, brokenRule, hint, suppose, follows, breaks, why,
   columns: "Spalten", none: "keine", clue: "Hinweis", notes: "Notizen", corners: "in den Ecken",
   signs: { ".": "leer", "•": "Punkt", "#": "schwarz", O: "Lampe", "^": "Zelt", T: "Baum" },
   states: { given: "vorgegeben", met: "erfüllt", lit: "beleuchtet", broken: "gegen die Regeln",
@@ -142,6 +142,7 @@ export default {
     filledWrong: "Jedes Feld ist gefüllt, aber etwas stimmt nicht. Prüfen zeigt wo.",
     nextStep: "Noch einmal Tipp zeigt den nächsten Schritt.",
     byNotes: "Das beruht auf deinen Notizen.",
+    solveAsk: "Lösen zeigt die ganze Lösung, und das Rätsel zählt dann nicht als gelöst. Noch einmal Lösen zeigt sie.",
     hintMore: "Noch einmal Tipp zeigt das Feld.",
     startedOver: "Alles ist wieder leer. Zurück bringt es wieder.",
     marked: "Gemerkt. Zur Marke führt hierher zurück.",
@@ -155,7 +156,7 @@ export default {
     hint: "Tipp", check: "Prüfen", solve: "Lösen",
     grade: "Grad", allNotes: "Alle Notizen", mark: "Merken", back: "Zur Marke", startOver: "Von vorn",
     share: "Teilen", paper: "Drucken",
-    rest: "Zum Ende", solutions: "Lösungen", make: "Neues Rätsel", size: "Größe", difficulty: "Schwierigkeit", seed: "Nummer",
+    close: "Schließen", rest: "Zum Ende", solutions: "Lösungen", make: "Neues Rätsel", size: "Größe", difficulty: "Schwierigkeit", seed: "Nummer",
     any: "beliebig", picture: "Ein Bild", generate: "Neues Rätsel",
     open: "Ein Rätsel öffnen", begun: "Weiter mit", choose: "wählen",
     id: "Eine ID, ein Link, oder ein Sudoku aus 81 Zeichen", enter: "Öffnen",

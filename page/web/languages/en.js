@@ -55,7 +55,7 @@ function keys(puzzle, isTouched) {
 
 const PROVED = "Proved by the program: ";
 export default {
-  language: "English", games: GAMES, levels: LEVELS, line, size, kind, keys, brokenRule, hint, suppose, follows, breaks, why,
+  games: GAMES, levels: LEVELS, line, size, kind, keys, brokenRule, hint, suppose, follows, breaks, why,
   columns: "columns", none: "none", clue: "clue", notes: "notes", corners: "in the corners",
   signs: { ".": "blank", "•": "dot", "#": "black", O: "bulb", "^": "tent", T: "tree" },
   states: { given: "given", met: "met", lit: "lit", broken: "against the rules", wrong: "wrong",
@@ -136,6 +136,7 @@ export default {
     filledWrong: "Each cell is filled, but something is wrong. Check shows where.",
     nextStep: "Press Hint again for the next step.",
     byNotes: "This rests on your notes.",
+    solveAsk: "Solve shows the whole solution, and the puzzle won’t count as solved by you. Press Solve again to see it.",
     hintMore: "Press Hint again for the cell.", startedOver: "All is blank again. Undo brings it back.",
     marked: "Marked. Back to the mark returns to this.",
     keptBefore: "The puzzle before is kept: Back returns to it.", copied: "The link is copied.",
@@ -148,7 +149,7 @@ export default {
     hint: "Hint", check: "Check", solve: "Solve",
     grade: "Grade", allNotes: "All notes", mark: "Mark this", back: "Back to mark", startOver: "Start over",
     share: "Share", paper: "Print",
-    rest: "To the end", solutions: "Solutions", make: "New puzzle", size: "Size", difficulty: "Difficulty", seed: "Seed",
+    close: "Close", rest: "To the end", solutions: "Solutions", make: "New puzzle", size: "Size", difficulty: "Difficulty", seed: "Seed",
     any: "any", picture: "A picture", generate: "New puzzle",
     open: "Open a puzzle", begun: "Go on with", choose: "choose",
     id: "An ID, a link, or a sudoku of 81 characters", enter: "Open",
