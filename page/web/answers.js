@@ -3,6 +3,7 @@ import { strike } from "./acts.js";
 import { answer, ask, isBusy, reason } from "./ask.js";
 import { Board, element } from "./board.js";
 import { solved } from "./clock.js";
+import { tell as end } from "./end.js";
 import { words } from "./language.js";
 import { gradeOf, levelOf } from "./levels.js";
 import { pictureOf } from "./pictures.js";
@@ -48,6 +49,7 @@ function finish() {
   table.board.grid.classList.add("done");
   solved(table.play);
   say(drawn ? words.picture(words.pictures[drawn]) : words.said.correct, "good");
+  end();
 }
 
 // The words go, and what they pointed out.

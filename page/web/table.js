@@ -18,6 +18,7 @@ export const table = { play: undefined, board: undefined, at: 0, chosen: new Set
 export function say(text, kind = "", note = "") {
   $("answer").replaceChildren(text, ...(note ? [element("small", {}, note)] : []));
   $("answer").className = kind;
+  $("end").hidden = true;
 }
 
 export function lay(puzzle, id) {
