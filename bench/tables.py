@@ -19,9 +19,8 @@ import re
 import subprocess
 import sys
 
-import shared
-from lib import words
-from lib.work import begin
+from support import words
+from puzzles._work import begin
 
 TOP = pathlib.Path(__file__).resolve().parent.parent
 FIGURES, FRONT, CHANGES = TOP / "bench" / "README.md", TOP / "README.md", TOP / "docs" / "CONTRIBUTING.md"
