@@ -98,15 +98,11 @@ function next(isAll = false) {
   point({ marked: new Map(marked), house: new Set(house), witness: new Set(witness), struck: new Map(struck), shown: new Map(shown),
     isHint: !isWrong });
   say(text, isWrong ? "bad" : "", note);
-  if (open.length > 3) $("answer").append(rest());
+  $("rest").hidden = open.length < 4;
 }
 
-// A button that leaves the steps out.
-function rest() {
-  const made = element("button", { class: "rest" }, words.page.rest);
-  made.addEventListener("click", () => next(true));
-  return made;
-}
+// Leaves the steps out.
+export const rest = () => next(true);
 
 async function hinted(puzzle, state) {
   const solved = await call("solve", named());

@@ -17,7 +17,7 @@ const kind = () => {
 async function open(day) {
   const { game, size, level } = kind(), { SEEDS } = await import("./seeds.js");
   $("calendar").close();
-  say(words.said.day(day));
+  say(words.day(day));
   await known(game, size, level, seedOf(SEEDS[`${game} ${size} ${level}`], day), { day });
 }
 

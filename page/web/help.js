@@ -8,7 +8,7 @@ import { $, table } from "./table.js";
 function example(game, signs, caption) {
   const puzzle = read(game, GAMES[game].example), board = new Board(puzzle, caption);
   board.paint({ state: signs || start(puzzle), extras: {} }, {});
-  return element("figure", {}, board.grid, element("figcaption", {}, caption));
+  return element("figure", { inert: "" }, board.grid, element("figcaption", {}, caption));
 }
 
 export function help() {

@@ -17,8 +17,8 @@ import { allNotes, back, erase, mark, redo, startOver, undo } from "./acts.js";
 import { $, point, say, table } from "./table.js";
 import { zoom } from "./zoom.js";
 
-const { check, close, hint, solve, grade } = answers, { share } = panels, { calendar, todays } = days;
-const clicks = { check, close, hint, solve, grade, generate, fresh: generate, picture, today: todays, enter, undo, redo, erase, allNotes, mark, back,
+const { check, close, hint, rest, solve, grade } = answers, { share } = panels, { calendar, todays } = days;
+const clicks = { check, close, hint, rest, solve, grade, generate, fresh: generate, picture, today: todays, enter, undo, redo, erase, allNotes, mark, back,
   startOver, share, paper: () => print(),
   next: generate, brag: () => end.share(say), others: calendar, "month-of": calendar, explain: help, pause: () => clock.pause(),
   smaller: () => zoom(-1), larger: () => zoom(1) };

@@ -37,11 +37,13 @@ const NAMES = { last: "Letzte Zahl", hiddenSingle: "Versteckter Einer", nakedSin
   glue: "Kleber (Glue)", reach: "Außer Reichweite" };
 const named = (reason) => (NAMES[nameOf(reason)] ? `${NAMES[nameOf(reason)]}: ` : "");
 
-// A link of a chain: a candidate that holds, since the one before doesn't, or one that doesn't, since the one before holds.
-function link({ cell, number, by }, k, chain) {
-  if (k % 2 === 0) return `${at(cell)} nicht ${number}`;
-  const isSame = chain[k - 1].cell.join() === cell.join();
-  return `${at(cell)} ${number} (${isSame ? "die einzige andere Zahl dort" : `der einzige andere Platz in ${house(by)}`})`;
+// A link of a chain, in the short form that players know: a candidate that holds, since the one before doesn't, or one that doesn't,
+// since the one before holds. Z5S9 is row 5, column 9.
+const short = ({ cell: [row, column] }) => `Z${row}S${column}`;
+function link(one, k, chain) {
+  if (k % 2 === 0) return `${short(one)} nicht ${one.number}`;
+  const isSame = short(chain[k - 1]) === short(one);
+  return `${short(one)} ${one.number}${isSame ? "" : ` (einziger Platz in ${house(one.by)})`}`;
 }
 
 // Why a step holds.
@@ -71,8 +73,7 @@ const REASONS = {
     `Was auch in ${at(pivot)} steht, eines von ${at(wings[0])} und ${at(wings[1])} ist ${number}, ` +
       `also kein Feld, das beide sieht.`,
   chain: ({ chain, struck }) =>
-    `Ist ${chain.map(link).join(", dann ist ")}. ` +
-    `So oder so ist ${listed(struck.map((one) => `${at(one.cell)} nicht ${one.number}`))}.`,
+    `Ist ${chain.map(link).join(", dann ")}. So oder so ist ${listed(struck.map((one) => `${short(one)} nicht ${one.number}`))}.`,
   laid: ({ house: of, clue: numbers, ways }) =>
     `${house(of)} ${clue(numbers)}: die Abschnitte passen auf ${ways === 1 ? "nur eine Weise."
     : `${several(ways)} Weisen, und diese Felder sind in allen gleich.`}`,

@@ -33,11 +33,13 @@ const NAMES = { last: "Last digit", hiddenSingle: "Hidden single", nakedSingle: 
   complete: "Complete", overlap: "Overlap", edge: "Edge", glue: "Glue", reach: "Out of reach" };
 const named = (reason) => (NAMES[nameOf(reason)] ? `${NAMES[nameOf(reason)]}: ` : "");
 
-// A link of a chain: a candidate that holds, since the one before doesn't, or one that doesn't, since the one before holds.
-function link({ cell, number, by }, k, chain) {
-  if (k % 2 === 0) return `${at(cell)} isn’t ${number}`;
-  const isSame = chain[k - 1].cell.join() === cell.join();
-  return `${at(cell)} is ${number} (${isSame ? "the only other number there" : `the only other place in ${house(by)}`})`;
+// A link of a chain, in the short form that players know: a candidate that holds, since the one before doesn't, or one that doesn't,
+// since the one before holds. r5c9 is row 5, column 9.
+const short = ({ cell: [row, column] }) => `r${row}c${column}`;
+function link(one, k, chain) {
+  if (k % 2 === 0) return `${short(one)} isn’t ${one.number}`;
+  const isSame = short(chain[k - 1]) === short(one);
+  return `${short(one)} is ${one.number}${isSame ? "" : ` (only place in ${house(one.by)})`}`;
 }
 
 // Why a step holds.
@@ -66,8 +68,7 @@ const REASONS = {
     `Whichever number ${at(pivot)} has, ${at(wings[0])} or ${at(wings[1])} is ${number}, so no ` +
       `cell that sees both is ${number}.`,
   chain: ({ chain, struck }) =>
-    `If ${chain.map(link).join(", so ").replace(", so ", ", ")}. ` +
-    `Either way ${listed(struck.map((one) => `${at(one.cell)} isn’t ${one.number}`))}.`,
+    `If ${chain.map(link).join(", ")}. Either way ${listed(struck.map((one) => `${short(one)} isn’t ${one.number}`))}.`,
   laid: ({ house: of, clue: numbers, ways }) =>
     `${big(house(of))} ${clue(numbers)}: its runs can be laid in ${ways === 1 ? "one way alone."
     : `${several(ways)} ways, and these cells are alike in all of them.`}`,
