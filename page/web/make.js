@@ -39,11 +39,13 @@ export async function begin(game, how, promise = {}, level = "") {
   }
   if (making === mine) making = undefined;
   if (!told) return;
+  const { play } = table;
   finished(game, told, promise, level);
-  if (told.id) say("", "", before);
+  if (told.id && play !== table.play) say("", "", before);
 }
 
 function finished(game, told, promise, level) {
+  if (told.id && table.play?.name === `${game}/${told.id}`) return void say(words.said.same);
   if (told.id) return void show(game, told.id, { promise: { grade: told.grade, needs: told.needs, ...promise } });
   if (told.failed) say(words.said[told.failed] || words.said.level, "bad");
   else say(level ? words.said.level : words.said.noPuzzle, "bad");

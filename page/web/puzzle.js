@@ -88,3 +88,6 @@ export function places(p, fault) {
   const houses = { row: rowsOf, column: columnsOf, diagonal: diagonalsOf, block: blocksOf }[kind];
   return houses ? houses(p)[x] : where ? [y * p.w + x] : [];
 }
+
+// The kind of a refused ID, without its place.
+export const kindOf = (why) => why.replace(/ (at )?\d.*/, "");
