@@ -3,9 +3,10 @@
 //
 // usage: page/daily/seeds.mjs PROGRAM [COUNT]
 //
-// PROGRAM is crates/puzzles/out/puzzles. Of each kind (a game, its usual size and a level) COUNT seeds are found, 370 unless it is
-// said: the first ones from 1 on whose puzzle has the level as the page makes it, each call of which is quick. So a slow device makes
-// the same puzzle. A list that is there goes on where it ends. It needs Debian's nodejs.
+// PROGRAM is crates/puzzles/out/puzzles. Of each kind (a game, its usual size and a level) COUNT seeds are found, 370 unless it
+// is said: the first ones from 1 on whose puzzle has the level as the page makes it, each call of which is quick. So a slow
+// device
+// makes the same puzzle. A list that is there goes on where it ends. It needs Debian's nodejs.
 import { execFileSync } from "node:child_process";
 import fs from "node:fs";
 import { GAMES } from "../web/games.js";
@@ -32,7 +33,8 @@ async function call(name, { game, id, size, seed, black, budget = MAKING_BUDGET 
     const { first } = run("grade", `--budget=${BUDGET}`, game, "--", id);
     return GRADE.test(first) ? { verdict: "one", grade: first } : { verdict: first };
   }
-  const more = black ? [`--black=${black}`] : [], { first, grid } = run("generate", `--seed=${seed}`, `--budget=${budget}`, ...more, game, "--", size);
+  const more = [`--seed=${seed}`, `--budget=${budget}`, ...(black ? [`--black=${black}`] : [])];
+  const { first, grid } = run("generate", ...more, game, "--", size);
   return first === "exhausted" ? { verdict: first, grids: [] } : { verdict: "made", id: first, grids: [grid], seed };
 }
 
@@ -54,7 +56,8 @@ async function found(game, size, level, from) {
 const steps = (seeds) => seeds.map((seed, k) => seed - (seeds[k - 1] || 0)).join(" ");
 const lines = (text) => text.match(/.{1,96}(?= |$)/g).map((line) => `    "${line.trim()} " +`).join("\n").replace(/ " \+$/, '"');
 
-const text = (all) => `// The seeds of the puzzles of the day, made by page/daily/seeds.mjs: of each kind the steps from one to the next.
+const HEAD = "// The seeds of the puzzles of the day, made by page/daily/seeds.mjs: of each kind the steps from one to the next.";
+const text = (all) => `${HEAD}
 const STEPS = {
 ${Object.entries(all).map(([kind, seeds]) => `  "${kind}":\n${lines(steps(seeds))},`).join("\n")}
 };

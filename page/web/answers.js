@@ -92,11 +92,11 @@ export async function hint() {
 function next(isAll = false) {
   if (looked.strikes) strike(looked.strikes);
   if (isAll) looked.open = looked.open.slice(-1);
-  const [press, ...open] = looked.open, { text, note, isWrong, focus, house, witness = [], marked, struck = [], shown, strikes } = press;
-  looked = { ...looked, version: looked.play.version, open, strikes };
+  const [press, ...open] = looked.open, { text, note, isWrong, focus, house, witness = [], marked, struck = [], shown } = press;
+  looked = { ...looked, version: looked.play.version, open, strikes: press.strikes };
   if (focus !== undefined) choose(focus, document.activeElement?.classList.contains("cell"));
-  point({ marked: new Map(marked), house: new Set(house), witness: new Set(witness), struck: new Map(struck), shown: new Map(shown),
-    isHint: !isWrong });
+  point({ marked: new Map(marked), struck: new Map(struck), shown: new Map(shown), house: new Set(house),
+    witness: new Set(witness), isHint: !isWrong });
   say(text, isWrong ? "bad" : "", note);
   $("rest").hidden = open.length < 4;
 }

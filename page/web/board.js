@@ -63,11 +63,13 @@ export class Board {
   }
 
   // Puts what stands there into the grid. Of what is pointed out `marked` has cells, each with a word of why; `house` those that
-  // a hint looks at; `shown` the signs that it tells; `struck` the numbers that it takes away; `witness` what bars others; `near` the
-  // lines of the chosen cell, `same` those with its number, and `chosen` more cells that are chosen. With the places that changed only what they touch is looked at again.
+  // a hint looks at; `shown` the signs that it tells; `struck` the numbers that it takes away; `witness` what bars others; `near`
+  // the lines of the chosen cell, `same` those with its number, and `chosen` more cells that are chosen. With the places that
+  // changed only what they touch is looked at again.
   paint(play, pointed, changed) {
     const { state, extras } = play, { marked, house, shown, struck, witness, near, same, chosen, isChecked } = pointed;
-    const points = new Set([marked, house, shown, struck, witness, near, same, chosen].flatMap((some) => [...(some?.keys() || [])]));
+    const all = [marked, house, shown, struck, witness, near, same, chosen];
+    const points = new Set(all.flatMap((some) => [...(some?.keys() || [])]));
     const touched = new Set([...this.standing.update(state, changed), ...this.pointed, ...points]);
     this.pointed = points;
     for (const place of touched) {

@@ -28,8 +28,8 @@ export function show() {
 }
 
 function tick() {
-  const { play } = table;
-  if (!play || document.hidden || document.body.classList.contains("paused") || play.isSolved || play.isShown || play.isBlank) return;
+  const { play } = table, isPaused = document.body.classList.contains("paused");
+  if (!play || document.hidden || isPaused || play.isSolved || play.isShown || play.isBlank) return;
   play.seconds += 1;
   if (play.seconds % OFTEN === 0) play.keep();
   show();
@@ -46,8 +46,9 @@ const rows = () => Object.fromEntries(Object.entries(attempt(() => JSON.parse(ge
 // Counts a puzzle that was solved, once, and not if its solution was shown. The best time is one without hints.
 export function solved(play) {
   if (play.isSolved || play.isShown) return;
-  const { puzzle, seconds, hints, promise: { grade, needs, day } } = play, level = grade ? levelOf(puzzle.game, grade, needs) : "";
-  const all = rows(), kind = `${puzzle.game} ${puzzle.size} ${level}`, { count = 0, alone = count, best, sum = 0 } = all[kind] || {};
+  const { puzzle: { game, size }, seconds, hints, promise: { grade, needs, day } } = play;
+  const kind = `${game} ${size} ${grade ? levelOf(game, grade, needs) : ""}`;
+  const all = rows(), { count = 0, alone = count, best, sum = 0 } = all[kind] || {};
   const own = hints ? best ?? null : Math.min(best ?? Infinity, seconds);
   all[kind] = { count: count + 1, alone: alone + Number(!hints), best: own, sum: sum + seconds };
   attempt(() => set(KEY, JSON.stringify(all)));
@@ -62,7 +63,8 @@ export function list() {
   const line = (tag, texts) => element("tr", {}, ...texts.map((text) => element(tag, {}, text)));
   const body = Object.entries(rows()).map(([kind, { count, alone = count, best, sum }]) => {
     const [game, size, level] = kind.split(" ");
-    return line("td", [words.kind(game, size, level), count, alone, Number.isFinite(best) ? timeWords(best) : "–", timeWords(sum / count)]);
+    const least = Number.isFinite(best) ? timeWords(best) : "–";
+    return line("td", [words.kind(game, size, level), count, alone, least, timeWords(sum / count)]);
   });
   $("solved").hidden = !body.length;
   $("solved").querySelector("table").replaceChildren(line("th", words.solvedHeads), ...body);

@@ -1,5 +1,5 @@
-// The puzzle of each day: the same one for all, by a list of seeds that are known to give its level quickly (seeds.js). What was solved
-// on which day stays on the device.
+// The puzzle of each day: the same one for all, by a list of seeds that are known to give its level quickly (seeds.js). What was
+// solved on which day stays on the device.
 import { attempt, get, set } from "./storage.js";
 
 const KEY = "puzzles days", DAY = 24 * 60 * 60 * 1000, FIRST = Date.UTC(2026, 0, 1);
@@ -40,7 +40,7 @@ export function mark(day, kind, { seconds, hints }, now = today()) {
   attempt(() => set(KEY, JSON.stringify(days)));
 }
 
-// How many days in a row, up to today or yesterday, had a puzzle of theirs solved on the day itself; and the most there ever were.
+// How many days in a row, up to today or yesterday, had a puzzle of theirs solved on the day itself; and the most that were.
 export function streak(days, now = today()) {
   const done = new Set(Object.keys(days).filter((day) => Object.values(days[day]).some(({ isOnDay }) => isOnDay)));
   const back = (from) => {

@@ -12,8 +12,9 @@ export function result(play) {
 }
 
 export function tell() {
+  const { seconds, hints, isShown } = table.play;
   $("end").hidden = false;
-  $("outcome").textContent = words.outcome({ time: timeWords(table.play.seconds), hints: table.play.hints, isShown: table.play.isShown });
+  $("outcome").textContent = words.outcome({ time: timeWords(seconds), hints, isShown });
 }
 
 // By the device's own way of sharing, or into the clipboard.

@@ -15,8 +15,10 @@ export function help() {
   const game = table.play ? table.play.puzzle.game : $("game").value, { name } = words.games[game];
   $("helped").textContent = words.helpOf(name);
   $("rules").replaceChildren(...words.help[game].map((text) => element("p", {}, text)));
-  $("examples").replaceChildren(example(game, undefined, words.examples[0]), example(game, [...GAMES[game].solved], words.examples[1]));
+  const [given, found] = words.examples;
+  $("examples").replaceChildren(example(game, undefined, given), example(game, [...GAMES[game].solved], found));
   const rows = words.shortcuts[game === "solo" ? "solo" : "others"];
-  $("shortcuts").replaceChildren(...rows.map(([keys, act]) => element("tr", {}, element("th", {}, keys), element("td", {}, act))));
+  const line = ([keys, act]) => element("tr", {}, element("th", {}, keys), element("td", {}, act));
+  $("shortcuts").replaceChildren(...rows.map(line));
   $("help").showModal();
 }

@@ -32,8 +32,8 @@ export function blackOf(game, size) {
   return game === "lightup" ? { black: side < 10 ? "20" : side < 14 ? "25" : side < 30 ? "30" : "35" } : {};
 }
 
-// The first puzzle of a level from a seed on, or if no level is wanted the seed's own; so many seeds are tried at a time. It goes on
-// until there is one or `isOver` says so; then `next` is the seed from which on none was tried.
+// The first puzzle of a level from a seed on, or if no level is wanted the seed's own; so many seeds are tried at a time. It goes
+// on until there is one or `isOver` says so; then `next` is the seed from which on none was tried.
 export async function make(call, reason, { seed, level, ...asked }, atOnce = 1, isOver = within(SECONDS)) {
   const maker = { call, reason, asked, level };
   let next = BigInt(seed), told;

@@ -1,5 +1,5 @@
-// New puzzles: of a size, a difficulty and a seed, of a day, or one that was made while another one was played. What isn't there soon
-// is made on behind, until it is stopped.
+// New puzzles: of a size, a difficulty and a seed, of a day, or one that was made while another one was played. What isn't there
+// soon is made on behind, until it is stopped.
 import { answer } from "./ask.js";
 import { element } from "./board.js";
 import { parts } from "./kept.js";
@@ -114,7 +114,8 @@ export async function ahead() {
 
 // A drawing that hasn't been solved yet, if there is one left.
 export function picture() {
-  const all = Object.values(PICTURES), open = all.filter((id) => !parts(`pattern/${id}`).isSolved), from = open.length ? open : all;
+  const all = Object.values(PICTURES), open = all.filter((id) => !parts(`pattern/${id}`).isSolved);
+  const from = open.length ? open : all;
   show("pattern", from[Math.floor(Math.random() * from.length)]);
 }
 

@@ -18,9 +18,9 @@ import { $, point, say, table } from "./table.js";
 import { zoom } from "./zoom.js";
 
 const { check, close, hint, rest, solve, grade } = answers, { share } = panels, { calendar, todays } = days;
-const clicks = { check, close, hint, rest, solve, grade, generate, fresh: generate, picture, today: todays, enter, undo, redo, erase, allNotes, mark, back,
-  startOver, share, paper: () => print(),
-  next: generate, brag: () => end.share(say), others: calendar, "month-of": calendar, explain: help, pause: () => clock.pause(),
+const clicks = { check, close, hint, rest, solve, grade, generate, fresh: generate, picture, today: todays, enter, undo, redo,
+  erase, allNotes, mark, back, startOver, share, paper: () => print(), next: generate, brag: () => end.share(say),
+    others: calendar, "month-of": calendar, explain: help, pause: () => clock.pause(),
   smaller: () => zoom(-1), larger: () => zoom(1) };
 const changes = { game: change, size: setLevels, difficulty: tellWanted, begun };
 
@@ -38,7 +38,9 @@ keys.listen();
 panels.lay();
 paper.listen();
 days.listen();
-for (const button of document.querySelectorAll("[data-close]")) button.addEventListener("click", () => button.closest("dialog").close());
+for (const button of document.querySelectorAll("[data-close]")) {
+  button.addEventListener("click", () => button.closest("dialog").close());
+}
 clock.begin();
 follow(() => point());
 addEventListener("popstate", go);

@@ -19,7 +19,8 @@ export class Play {
     const { signs = start(this.puzzle), extras = {}, done = [], undone = [], promise = {} } = found;
     const { mark, seconds, hints, isShown, isSolved } = found;
     Object.assign(this, { state: signs, extras, done, undone, promise });
-    Object.assign(this, { mark: Number.isInteger(mark) ? mark : undefined, seconds: Number(seconds) || 0, hints: Number(hints) || 0 });
+    Object.assign(this, { seconds: Number(seconds) || 0, hints: Number(hints) || 0 });
+    this.mark = Number.isInteger(mark) ? mark : undefined;
     [this.isShown, this.isSolved] = [isShown === true, isSolved === true];
     this.version += 1;
   }

@@ -7,16 +7,15 @@ const marks = (cells, why) => cells.map((cell) => [cell, why]);
 // What a hint shows of its steps, press by press: `text` and `note`, and what is pointed out on the board. `strikes` are
 // candidates that are away from the next press on.
 export function presses(words, puzzle, told) {
-  const { kind, cells, values = [], steps, sign } = told, { game } = puzzle, signOf = (value) =>
-    (puzzle.block ? String(value) : value ? sign : "•");
+  const { kind, steps, sign, look } = told, signOf = (value) => (puzzle.block ? String(value) : value ? sign : "•");
   if (!steps.length) return [last(words, puzzle, told, signOf)];
-  const before = steps.slice(0, -1), tried = kind === "trial" ? told.cases.flatMap((one) => followed(words, puzzle, told, one, signOf)) : [];
-  const { look } = told, count = before.length + tried.length;
+  const before = steps.slice(0, -1), cases = kind === "trial" ? told.cases : [];
+  const tried = cases.flatMap((one) => followed(words, puzzle, told, one, signOf)), count = before.length + tried.length;
   const all = [...before.map((step) => shown(words, puzzle, step)), ...tried].map(({ text, ...more }, k) =>
     ({ ...more, text: words.step(k + 1, count + 1, text), note: k + 1 < count ? words.said.nextStep : words.said.hintMore }));
-  const first = { text: words.look(worded(puzzle, look.why), game), note: count ? words.stepsMore(count + 1) : words.said.hintMore,
-    house: look.house, marked: [], shown: [] };
-  const end = last(words, puzzle, { ...told, cells, values }, signOf);
+  const more = count ? words.stepsMore(count + 1) : words.said.hintMore;
+  const first = { text: words.look(worded(puzzle, look.why)), note: more, house: look.house, marked: [], shown: [] };
+  const end = last(words, puzzle, told, signOf);
   return [first, ...all, count ? { ...end, text: words.step(count + 1, count + 1, end.text) } : end];
 }
 
@@ -25,7 +24,8 @@ function shown(words, puzzle, { why, house, struck, witness, isNoted }) {
   const byCell = new Map();
   for (const [cell, number] of struck) byCell.set(cell, [...(byCell.get(cell) || []), number]);
   const text = words.why(worded(puzzle, why), puzzle.game) + (isNoted ? ` ${words.said.byNotes}` : "");
-  return { text, house, witness, marked: marks([...byCell.keys()], "struck"), struck: [...byCell], shown: ghosts(why), strikes: struck };
+  const marked = marks([...byCell.keys()], "struck");
+  return { text, house, witness, marked, struck: [...byCell], shown: ghosts(why), strikes: struck };
 }
 
 // The numbers that hold along a chain.

@@ -24,7 +24,8 @@ export function show(game, text, { promise = {}, isNamed = !table.play } = {}) {
   refuse("");
   for (const name of ["act", "tools", "more"]) $(name).inert = false;
   const { grade, needs, day } = play.promise;
-  $("level").textContent = (day ? `${words.dayName(day)}. ` : "") + (grade ? words.grade(game, play.promise, levelOf(game, grade, needs)) : "");
+  const level = grade ? words.grade(game, play.promise, levelOf(game, grade, needs)) : "";
+  $("level").textContent = day ? `${words.dayName(day)}. ${level}` : level;
   $("written").textContent = text;
   $("name").textContent = words.kind(game, puzzle.size);
   document.title = `${$("name").textContent} – puzzles`;

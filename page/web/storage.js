@@ -1,5 +1,5 @@
-// The browser's storage, which may be full, switched off, or filled with something else. None of these is a fault. Copies of the page
-// in several folders of one place share it, so each but the one at the top has names of its own.
+// The browser's storage, which may be full, switched off, or filled with something else. None of these is a fault. Copies of the
+// page in several folders of one place share it, so each but the one at the top has names of its own.
 export function attempt(act) {
   try { return act(); } catch { return undefined; }
 }

@@ -148,7 +148,8 @@ def renewed(page, served, tally, module):
             shutil.copytree(TOP / name, source / name)
         table = source / "page" / "web" / "languages" / "en.js"
         table.write_text(table.read_text().replace(OLD, NEW))
-        subprocess.run([sys.executable, source / "python" / "run", "page-static", fresh, "--module", module], check=True, timeout=WAIT, stdout=subprocess.DEVNULL)
+        words = [sys.executable, source / "python" / "run", "page-static", fresh, "--module", module]
+        subprocess.run(words, check=True, timeout=WAIT, stdout=subprocess.DEVNULL)
         for name in ("service.js", "languages/en.js"):  # first the one file, then the other
             shutil.copyfile(fresh / name, served.folder / name)
             tally.same(f"with a new {name} at first", seen(page, 1), {OLD})
@@ -174,7 +175,8 @@ def copies(page, served, tally):
     for name in ("a", "b"):
         shutil.copytree(served.folder, served.folder / name, ignore=shutil.ignore_patterns("a", "b"))
     page.driver.get(f"{first}icon.svg")
-    page.script("localStorage.clear(); localStorage.setItem('puzzles solo/2x2:1b4i3_2a', '1,2,' + '.,4,' + '.,'.repeat(9) + '3,2,.')")
+    page.script("localStorage.clear();"
+                "localStorage.setItem('puzzles solo/2x2:1b4i3_2a', '1,2,' + '.,4,' + '.,'.repeat(9) + '3,2,.')")
     for name in ("a", "b"):
         page.url = f"{first}{name}/"
         page.open("solo", "2x2:1b4i3_2a", is_fresh=False)

@@ -43,8 +43,8 @@ def day(page, server, tally):
         made.append(the_id(page))
     tally.same("the same for a slow server", made[1], made[0])
     found = page.driver.execute_async_script("""const [done] = arguments;
-        Promise.all(['seeds', 'days'].map((name) => import(`${location.origin}/${name}.js`))).then(([{ SEEDS }, { seedOf, today }]) =>
-          done(seedOf(SEEDS['tents 8x8 easy'], today())))""")
+        Promise.all(['seeds', 'days'].map((name) => import(`${location.origin}/${name}.js`)))
+          .then(([{ SEEDS }, { seedOf, today }]) => done(seedOf(SEEDS['tents 8x8 easy'], today())))""")
     tally.same("the seed's puzzle", made[0], server.made("tents", "8x8", found, budget="0")["id"])
     tally.true("its day is named", page.text("#level")[:1].isdigit())
 
@@ -85,12 +85,14 @@ def end(page, _, tally):
     for place in CORNERS:
         page.cells()[place].click()
     page.until_said("Correct.")
-    tally.true(f"the outcome: {page.text('#outcome')}", page.text("#outcome").startswith("Time 0:") and "1 hint." in page.text("#outcome"))
+    said = page.text("#outcome")
+    tally.true(f"the outcome: {said}", said.startswith("Time 0:") and said.endswith("1 hint."))
     page.script("navigator.share = (what) => { window.shared = what; return Promise.resolve() }")
     page.click("#brag")
     shared = page.script("return window.shared")
-    tally.true(f"the result: {shared}", shared["text"].startswith("Tents 3 × 3: solved in 0:") and shared["text"].endswith("1 hint"))
-    tally.true("no cell in it", "^" not in shared["text"])
+    text = shared["text"]
+    tally.true(f"the result: {shared}", text.startswith("Tents 3 × 3: solved in 0:") and text.endswith("1 hint"))
+    tally.true("no cell in it", "^" not in text)
     row = page.script("return document.querySelector('#solved tr:nth-child(2)').textContent")
     tally.same("solved with a hint", row[:len("Tents 3 × 310–")], "Tents 3 × 310–")
     page.select("#size", "5x5")
@@ -144,8 +146,8 @@ def rules(page, _, tally):
         shown = page.driver.execute_async_script("""const [game, done] = arguments;
             import(`${location.origin}/games.js`).then(({ GAMES }) => done([GAMES[game].example, GAMES[game].solved]))""", game)
         told = page.driver.execute_async_script("""const [game, id, done] = arguments;
-            fetch('solve', { method: 'POST', headers: { 'Content-Type': 'application/json' }, body: JSON.stringify({ game, id }) })
-              .then((reply) => reply.json()).then(done)""", game, shown[0])
+            const headers = { 'Content-Type': 'application/json' }, body = JSON.stringify({ game, id });
+            fetch('solve', { method: 'POST', headers, body }).then((reply) => reply.json()).then(done)""", game, shown[0])
         tally.same(f"the example of {game}", (told["verdict"], "".join(told["grids"][0]).replace(" ", "")), ("one", shown[1]))
         tally.true(f"rules of {game}", len(page.all("#rules p")) >= 2 and len(page.all("#examples figure")) == 2)
         page.keys(Keys.ESCAPE)
@@ -165,7 +167,8 @@ def keys(page, _, tally):
 
 def links(page, _, tally):
     """A sudoku of another page's link, or in a line with other signs for blank; a variant is refused by name."""
-    for given, text in (("https://puzz.link/p?sudoku/4/4/1h4n3i", "2x2:1b4h3c"), ("1__4____________", "2x2:1b4l"), ("1**4" + "." * 12, "2x2:1b4l")):
+    for given, text in (("https://puzz.link/p?sudoku/4/4/1h4n3i", "2x2:1b4h3c"), ("1__4____________", "2x2:1b4l"),
+                        ("1**4" + "." * 12, "2x2:1b4l")):
         page.open("tents", TENTS)
         page.put("#id", given)
         page.click("#enter")
@@ -218,7 +221,8 @@ def ahead(page, _, tally):
         page.cells()[4].click()
     page.script("window.since = performance.now()")
     page.until("waits", lambda: page.script("return performance.now() - window.since > 1500"))
-    page.script("window.calls = 0; const real = window.fetch; window.fetch = (...all) => { window.calls += 1; return real(...all) }")
+    page.script("window.calls = 0; const real = window.fetch;"
+                "window.fetch = (...all) => { window.calls += 1; return real(...all) }")
     page.click("#generate")
     page.until("shows it", lambda: the_id(page).startswith("5x5:"))
     tally.same("calls for a puzzle that was there", page.script("return window.calls"), 0)

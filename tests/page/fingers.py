@@ -1,4 +1,4 @@
-"""Fingers and eyes: sizes of controls, words that fit, what is wrong by its form, and the sheet of words. For test_browsers.py."""
+"""Fingers and eyes: sizes of controls, words that fit, what is wrong by its form, and the sheet of words."""
 from page.driver import Keys
 
 SOLO = "2x2:1b4i3_2a"  # the rows 1 2 3 4, 3 4 1 2, 2 1 4 3, 4 3 2 1
@@ -11,12 +11,13 @@ CONTROLS = """
     const isSeen = (found) => found.getClientRects().length && !found.closest('details:not([open]) > :not(summary)');
     return [...document.querySelectorAll('button, select, input:not([type=checkbox]), summary, textarea, .box')].filter(isSeen)
       .map((found) => { const { width, height } = found.getBoundingClientRect();
-        return [found.id || found.value || found.textContent, Math.round(width), Math.round(height), Boolean(found.closest('#pad'))]; });
+        const name = found.id || found.value || found.textContent;
+        return [name, Math.round(width), Math.round(height), Boolean(found.closest('#pad'))]; });
 """
 OUT = """
     const isOut = (found) => found.scrollWidth > found.clientWidth + 1 || found.scrollHeight > found.clientHeight + 1;
-    return [...document.querySelectorAll('button, select, summary')].filter((found) => found.getClientRects().length && isOut(found))
-      .map((found) => found.id || found.textContent);
+    return [...document.querySelectorAll('button, select, summary')]
+      .filter((found) => found.getClientRects().length && isOut(found)).map((found) => found.id || found.textContent);
 """
 
 
@@ -45,7 +46,8 @@ def clue_numbers(page, _, tally):
     page.size(390, 664)
     page.open("pattern", ROW)
     for key in ("row 1.0", "row 1.1"):
-        spot = page.script("const { left, right } = document.querySelector(`[data-key='${arguments[0]}']`).getBoundingClientRect();"
+        spot = page.script("const span = document.querySelector(`[data-key='${arguments[0]}']`);"
+                           "const { left, right } = span.getBoundingClientRect();"
                            "const clue = document.querySelector('[role=rowheader]').getBoundingClientRect();"
                            "return [(left + right) / 2, clue.bottom - 2]", key)
         page.script("document.elementFromPoint(...arguments[0]).dispatchEvent(new MouseEvent('click',"
@@ -84,7 +86,8 @@ def wrong_forms(page, _, tally):
     page.keys(Keys.DELETE, held=())
     page.keys("34", held=[Keys.SHIFT])
     said = page.answer("#check")
-    tally.true(f"wrong notes: {said}", said.startswith("The notes of one cell lack its number.") and page.having("wrongNote") == [1])
+    tally.true(f"wrong notes: {said}", said.startswith("The notes of one cell lack its number."))
+    tally.same("the cell with wrong notes", page.having("wrongNote"), [1])
     for game, text, keys in (("tents", TENTS, " "), ("pattern", ROW, "x"), ("lightup", "2x2:2c", "x")):
         page.open(game, text)
         place = {"tents": 2, "pattern": 0, "lightup": 1}[game]
@@ -135,8 +138,8 @@ def sheet(page, _, tally):
         page.open(game, text)
         page.presses()
         page.script("scrollTo(0, 0)")
-        tops = page.script("return ['#sheet', '#hint', '#pad'].map((name) => document.querySelector(name).getBoundingClientRect())"
-                           ".map(({ top, bottom }) => [top, bottom])")
+        tops = page.script("return ['#sheet', '#hint', '#pad'].map((name) => document.querySelector(name))"
+                           ".map((found) => found.getBoundingClientRect()).map(({ top, bottom }) => [top, bottom])")
         tally.true(f"the sheet of {game}: {tops}", tops[0][0] >= tops[1][1] and tops[0][0] >= tops[2][1] - 1)
         page.script("scrollTo(0, document.documentElement.scrollHeight)")
         foot = page.script("return document.querySelector('footer').getBoundingClientRect().bottom"
@@ -152,7 +155,8 @@ def heading(page, _, tally):
     page.size(390, 664)
     page.open("solo", SOLO)
     tally.true("a heading", page.script("return document.querySelector('h1').checkVisibility()"))
-    page.driver.execute_cdp_cmd("Emulation.setEmulatedMedia", {"features": [{"name": "prefers-reduced-motion", "value": "reduce"}]})
+    wished = [{"name": "prefers-reduced-motion", "value": "reduce"}]
+    page.driver.execute_cdp_cmd("Emulation.setEmulatedMedia", {"features": wished})
     page.script("Element.prototype.scrollIntoView = function (how) { window.glide = how.behavior }")
     page.script("document.getElementById('solve').click(); document.getElementById('solve').click()")
     page.until("shows", lambda: page.all("#solutions figure"))

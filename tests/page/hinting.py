@@ -1,8 +1,9 @@
 """Hints on the board: one step at a press, lit and struck, with the player's notes; and cells that are tried out."""
 from page.driver import Keys
 
+# A puzzle, and the same before a hint of 15 steps.
 SIMPLE = "3x3:2j1_2a6b8_9_8c1b3a1a8_6j2_8e7_9a3b2b9_5c1d3d4a7b5b"
-HARD = "3x3:2_3a9_8_7e1_2_3_6b8_9_8c1a2_3a1a8_6_2f3a4_2_8a8a2a7_9a3b2_8a9_5_3b1d3_8c4a7a8_5b"  # the same, before a hint of 15 steps
+HARD = "3x3:2_3a9_8_7e1_2_3_6b8_9_8c1a2_3a1a8_6_2f3a4_2_8a8a2a7_9a3b2_8a9_5_3b1d3_8c4a7a8_5b"
 TRIAL = "3x3:aBBa1aBb"
 HIGHEST = 298  # pixels of the sheet on a phone
 
@@ -108,7 +109,7 @@ def near(page, _, tally):
     text = f"3x3:a{row((0, 80))}a"
     for at, wanted in ((10, 0), (70, 80)):
         page.open("solo", text)
-        page.script("return import(`${location.origin}/table.js`).then(({ table }) => { table.play.done.push([[arguments[0], '.', '.']]) })",
-                    at)
+        page.script("const [at] = arguments; return import(`${location.origin}/table.js`)"
+                    ".then(({ table }) => { table.play.done.push([[at, '.', '.']]) })", at)
         page.presses()
         tally.same(f"the hint near {at}", page.marked(), [wanted])

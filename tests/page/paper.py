@@ -98,10 +98,12 @@ def on_paper(page):
     """The cells of what is printed: each one's sides in millimetres, on how many boards."""
     return page.script("""
         dispatchEvent(new Event('beforeprint'));
-        const shown = [...document.querySelectorAll('#stage .board, #sheets .board')].filter((one) => one.getClientRects().length);
-        return shown.map((board) => { const cells = [...board.querySelectorAll('.cell')].map((cell) => cell.getBoundingClientRect());
+        const boards = [...document.querySelectorAll('#stage .board, #sheets .board')], box = (one) => one.getBoundingClientRect();
+        return boards.filter((one) => one.getClientRects().length).map((board) => {
+          const cells = [...board.querySelectorAll('.cell')].map(box);
           const all = board.getBoundingClientRect(), mm = 25.4 / 96;
-          return [cells.length, Math.min(...cells.flatMap((cell) => [cell.width, cell.height])) * mm, all.width * mm, all.height * mm];
+          const least = Math.min(...cells.flatMap((cell) => [cell.width, cell.height]));
+          return [cells.length, least * mm, all.width * mm, all.height * mm];
         });""")
 
 

@@ -36,5 +36,5 @@ def test_packed(server):
     assert len(packed[2]) < len(plain[2])
     tags = [head.partition(b"ETag: ")[2].partition(b"\r\n")[0] for head in (plain[0], packed[0])]
     assert tags[0] != tags[1]
-    again = server.send(b"GET /page.js HTTP/1.0\r\nHost: localhost\r\nAccept-Encoding: gzip\r\nIf-None-Match: %s\r\n\r\n" % tags[1], False)
-    assert b" 304 " in again
+    asked = b"GET /page.js HTTP/1.0\r\nHost: localhost\r\nAccept-Encoding: gzip\r\nIf-None-Match: %s\r\n\r\n"
+    assert b" 304 " in server.send(asked % tags[1], False)

@@ -57,7 +57,8 @@ function told(rules, { chain, struck, choices }) {
   const strikes = new Set(struck);
   const choose = (ways) => {
     const links = chain.map((at, k) => ({ ...named(at), by: k % 2 ? ways[(k - 1) / 2].by : undefined, via: via(at, k) }));
-    const made = step(cells, { kind: "chain", chain: links, struck: struck.map(named) }, struck, ways.flatMap(({ rests }) => rests));
+    const why = { kind: "chain", chain: links, struck: struck.map(named) };
+    const made = step(cells, why, struck, ways.flatMap(({ rests }) => rests));
     return { ...made, strikes, choices, choose };
   };
   return choose(choices.map(([first]) => first));

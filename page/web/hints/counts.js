@@ -59,7 +59,8 @@ export class Counts {
   // The house that breaks if a cell has a value, by the houses alone, after how many cells, and what leads there.
   // Nothing, if none does within so many cells.
   follow(cans, cell, value, most) {
-    const now = new Map([[cell, value]]), fresh = [cell], entries = [{ cells: [cell], values: [value], why: { kind: "tried" }, from: [] }];
+    const now = new Map([[cell, value]]), fresh = [cell];
+    const entries = [{ cells: [cell], values: [value], why: { kind: "tried" }, from: [] }];
     const has = (at) => now.get(at) ?? (cans[at].size === 2 ? undefined : Number(isSure(cans[at])));
     const told = (broken, house) => ({ broken, cells: now.size, house, path: leading(entries, house.cells) });
     while (fresh.length && now.size <= most) {

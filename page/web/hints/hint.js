@@ -18,9 +18,9 @@ export const rulesOf = (puzzle) => new RULES[puzzle.game](puzzle);
 export const valueIn = (puzzle, rules, sign) => (puzzle.block ? Number(sign) : Number(sign === rules.sign));
 
 // A hint in parts, for a player's signs: "." for blank, "x" for "none here". `notes` has for a cell the numbers that the player
-// thinks it can have, and `last` is the cell that was changed last. `kind` is "wrong", "done", "step", "trial" or "guess"; `cells`
-// has the cells that it is about, `values` what stands there; `steps` what leads there, one after another, each with the cells
-// that it looks at, the candidates that it strikes, and the cells that bar the others; `look` what a player looks at first.
+// thinks it can have, and `last` is the cell that was changed last. `kind` is "wrong", "done", "step", "trial" or "guess";
+// `cells` has the cells that it is about, `values` what stands there; `steps` what leads there, one after another, each with the
+// cells that it looks at, the candidates that it strikes, and the cells that bar the others; `look` what a player looks at first.
 export function hint(puzzle, signs, solution, { notes = [], last } = {}) {
   const rules = rulesOf(puzzle), value = (sign) => valueIn(puzzle, rules, sign), values = solution.map(value);
   const wrong = signs.flatMap((sign, cell) => (sign !== "." && value(sign) !== values[cell] ? cell : []));
@@ -108,7 +108,8 @@ function nextSteps(view, cans, blank, last) {
   }
 }
 
-// A cell that is tried out: by what stands there, and else with all that steps take away, of which those are told that it rests on.
+// A cell that is tried out: by what stands there, and else with all that steps take away. Of these those are told that it rests
+// on.
 function trialOf({ rules, signs, isAway, noted }, cans, values, blank, found) {
   const plain = tried(rules, rules.cans(signs), values, blank);
   if (plain || found) return plain && { ...plain, before: [] };
@@ -121,7 +122,8 @@ function trialOf({ rules, signs, isAway, noted }, cans, values, blank, found) {
     const before = kept.before.filter((other) => other !== one), now = noted.map((can) => new Set(can));
     if (!hold(before, isAway)) continue;
     before.forEach(({ strikes }) => without(now, strikes));
-    const wrong = [...now[trial.cell]].filter((value) => value !== values[trial.cell]), again = refuted(rules, now, trial.cell, wrong);
+    const wrong = [...now[trial.cell]].filter((value) => value !== values[trial.cell]);
+    const again = refuted(rules, now, trial.cell, wrong);
     if (again) kept = { trial: again, before };
   }
   return { ...kept.trial, before: kept.before };

@@ -14,7 +14,8 @@ export function nameOf({ kind, house, cells, chain, how }) {
 
 // A chain of one number over two links is named by how its lines lie; a longer one by what it is made of.
 function chainName(chain) {
-  const links = chain.flatMap(({ by }, k) => (k % 2 ? [by] : [])), isOne = chain.every(({ number }) => number === chain[0].number);
+  const links = chain.flatMap(({ by }, k) => (k % 2 ? [by] : []));
+  const isOne = chain.every(({ number }) => number === chain[0].number);
   if (isOne && chain.length === 4) {
     const [first, second] = links.map(([kind]) => kind), { via } = chain[2];
     if (first === second && LINES.includes(first) && via.some((kind) => LINES.includes(kind))) return "skyscraper";

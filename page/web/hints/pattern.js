@@ -50,14 +50,16 @@ export class Pattern {
     for (const line of fresh) { // grows as it goes
       fresh.delete(line);
       const { ways, left } = laid(line.cells.map(can), line.clue), from = line.cells.filter((at) => now.has(at));
-      if (!ways) return { broken: { kind: "runs", house: line.name }, cells: now.size, house: line, path: leading(entries, line.cells) };
+      const broken = { kind: "runs", house: line.name };
+      if (!ways) return { broken, cells: now.size, house: line, path: leading(entries, line.cells) };
       const settled = line.cells.flatMap((at, k) => (can(at).size === 2 && left[k].size === 1 ? [[at, left[k]]] : []));
       for (const [at, one] of settled) {
         now.set(at, one);
         this.linesOf[at].forEach((other) => fresh.add(other));
       }
       const why = { kind: "laid", house: line.name, clue: line.clue, ways };
-      if (settled.length) entries.push({ cells: settled.map(([at]) => at), values: settled.map(([, one]) => [...one][0]), why, from });
+      const cells = settled.map(([at]) => at), values = settled.map(([, one]) => [...one][0]);
+      if (settled.length) entries.push({ cells, values, why, from });
       if (now.size > most) return undefined;
     }
     return undefined;

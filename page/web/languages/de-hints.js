@@ -28,8 +28,8 @@ function places([kind], cells) {
 }
 
 // The names of steps that players know.
-const NAMES = { last: "Letzte Zahl", hiddenSingle: "Versteckter Einer", nakedSingle: "Nackter Einer", pointing: "Zeiger (Pointing)",
-  claiming: "Anspruch (Claiming)", nakedPair: "Nacktes Paar", nakedTriple: "Nackter Dreier", nakedQuad: "Nackter Vierer",
+const NAMES = { last: "Letzte Zahl", hiddenSingle: "Versteckter Einer", nakedSingle: "Nackter Einer",
+  pointing: "Zeiger (Pointing)", claiming: "Anspruch (Claiming)", nakedPair: "Nacktes Paar", nakedTriple: "Nackter Dreier", nakedQuad: "Nackter Vierer",
   nakedSet: "Nackte Menge", hiddenPair: "Verstecktes Paar", hiddenTriple: "Versteckter Dreier", hiddenQuad: "Versteckter Vierer",
   hiddenSet: "Versteckte Menge", xwing: "X-Wing", swordfish: "Schwertfisch", xywing: "XY-Wing",
   skyscraper: "Wolkenkratzer (Skyscraper)", kite: "Drachen (Two-String Kite)", turbot: "Turbot-Fisch", xchain: "X-Kette",
@@ -37,8 +37,8 @@ const NAMES = { last: "Letzte Zahl", hiddenSingle: "Versteckter Einer", nakedSin
   glue: "Kleber (Glue)", reach: "Außer Reichweite" };
 const named = (reason) => (NAMES[nameOf(reason)] ? `${NAMES[nameOf(reason)]}: ` : "");
 
-// A link of a chain, in the short form that players know: a candidate that holds, since the one before doesn't, or one that doesn't,
-// since the one before holds. Z5S9 is row 5, column 9.
+// A link of a chain, in the short form that players know: a candidate that holds, since the one before doesn't, or one that
+// doesn't, since the one before holds. Z5S9 is row 5, column 9.
 const short = ({ cell: [row, column] }) => `Z${row}S${column}`;
 function link(one, k, chain) {
   if (k % 2 === 0) return `${short(one)} nicht ${one.number}`;
@@ -144,7 +144,8 @@ export const LOOKS = {
 };
 
 export const NEEDS = { diagonal: ["Schritt entlang einer Diagonale", "Schritte entlang einer Diagonale"],
-  seen: ["Feld, das alle Plätze sieht", "Felder, die alle Plätze sehen"], crossing: ["Block gegen eine Linie", "Blöcke gegen Linien"],
+  seen: ["Feld, das alle Plätze sieht", "Felder, die alle Plätze sehen"],
+  crossing: ["Block gegen eine Linie", "Blöcke gegen Linien"],
 naked: ["Menge von Zahlen", "Mengen von Zahlen"],
   hidden: ["Menge von Feldern", "Mengen von Feldern"], xwing: ["X-Wing", "X-Wings"],
   swordfish: ["Schwertfisch", "Schwertfische"],

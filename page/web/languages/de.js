@@ -65,7 +65,8 @@ export default {
   columns: "Spalten", none: "keine", clue: "Hinweis", notes: "Notizen", corners: "in den Ecken",
   signs: { ".": "leer", "•": "Punkt", "#": "schwarz", O: "Lampe", "^": "Zelt", T: "Baum" },
   states: { given: "vorgegeben", met: "erfüllt", lit: "beleuchtet", broken: "gegen die Regeln",
-    wrong: "falsch", wrongNote: "falsche Notizen", marked: "markiert", hint: "Tipp", differs: "verschieden", struck: "gestrichen", tried: "ausprobiert",
+    wrong: "falsch", wrongNote: "falsche Notizen", marked: "markiert", hint: "Tipp", differs: "verschieden",
+    struck: "gestrichen", tried: "ausprobiert",
     then: "folgt", witness: "schließt die anderen aus" },
   picture: (name) => `Richtig. Das Rätsel ist gelöst: ${name}.`,
   rule: ({ game, crossed }) => (crossed ? GAMES[game].crossed : GAMES[game].rule),
@@ -80,20 +81,24 @@ export default {
   solution: (k) => `Lösung ${k}`,
   differ: (cells) => `Zwei stehen unten. Sie unterscheiden sich in den ${cells} markierten Feldern.`,
   wrong: (cells) => `${count(cells, "Feld ist", "Felder sind")} falsch.`.replace(/^1 /, "Ein "),
-  wrongNotes: (cells) => `In den Notizen von ${count(cells, "Feld", "Feldern")} fehlt seine Zahl.`.replace(/von 1 /, "von einem "),
+  wrongNotes: (cells) => `In den Notizen von ${count(cells, "Feld", "Feldern")} fehlt seine Zahl.`
+    .replace(/von 1 /, "von einem "),
   help: {
     solo: ["Fülle jedes leere Feld mit einer Zahl, so dass jede Zeile, jede Spalte und jeder Block jede Zahl einmal hat.",
-      "Wo einem Feld nur eine Zahl bleibt, oder einer Zahl nur ein Feld einer Zeile, einer Spalte oder eines Blocks, steht sie dort."],
-    pattern: ["Die Zahlen an einer Zeile oder Spalte sind die Längen ihrer schwarzen Abschnitte, der Reihe nach. Zwischen zweien ist " +
-      "mindestens ein Feld weiß.", "Ein langer Abschnitt bedeckt die Mitte seiner Linie, wo er auch beginnt. Das ist ein guter Anfang."],
-    lightup: ["Setze Lampen in weiße Felder. Eine Lampe beleuchtet ihre Zeile und Spalte bis zum nächsten schwarzen Feld. Jedes weiße " +
-      "Feld wird beleuchtet.", "Keine Lampe beleuchtet eine andere. Eine Zahl sagt, wie viele Lampen neben ihrem Feld stehen."],
+      "Wo einem Feld nur eine Zahl bleibt, oder einer Zahl nur ein Feld einer Zeile, einer Spalte oder eines Blocks, steht " +
+      "sie dort."],
+    pattern: ["Die Zahlen an einer Zeile oder Spalte sind die Längen ihrer schwarzen Abschnitte, der Reihe nach. Zwischen " +
+      "zweien ist mindestens ein Feld weiß.",
+      "Ein langer Abschnitt bedeckt die Mitte seiner Linie, wo er auch beginnt. Das ist ein guter Anfang."],
+    lightup: ["Setze Lampen in weiße Felder. Eine Lampe beleuchtet ihre Zeile und Spalte bis zum nächsten schwarzen Feld. Jedes " +
+      "weiße Feld wird beleuchtet.", "Keine Lampe beleuchtet eine andere. Eine Zahl sagt, wie viele Lampen neben ihrem Feld stehen."],
     tents: ["Setze neben jeden Baum ein Zelt, nicht über Eck, so dass jeder Baum ein eigenes hat.",
       "Keine zwei Zelte berühren sich, auch nicht über Eck. Die Zahlen sagen, wie viele Zelte eine Zeile oder Spalte hat."],
   },
   helpOf: (name) => `So geht ${name}`, examples: ["Ein Rätsel", "Seine Lösung"],
   shortcuts: {
-    solo: [["Pfeile", "gehen"], ["1 bis 9", "eine Zahl"], ["Umschalt und Ziffer", "eine Notiz"], ["N, K", "Notizen, Notizen in den Ecken"],
+    solo: [["Pfeile", "gehen"], ["1 bis 9", "eine Zahl"], ["Umschalt und Ziffer", "eine Notiz"],
+      ["N, K", "Notizen, Notizen in den Ecken"],
       ["Umschalt und Pfeil", "mehrere Felder wählen"], ["0 oder Entf", "leeren"], ["Strg-Z, Strg-Umschalt-Z", "zurück, wieder"],
       ["H, C", "Tipp, Prüfen"], ["+, −", "größer, kleiner"], ["Esc", "die Worte schließen"], ["?", "dieses Blatt"]],
     others: [["Pfeile", "gehen"], ["Leertaste", "gefüllt, Punkt, leer"], ["X", "ein Punkt"], ["Umschalt und Pfeil", "zeichnen"],
@@ -103,7 +108,8 @@ export default {
   day: (day) => `Das Rätsel vom ${dayText(day)}.`,
   dayName: (day, isDone) => `${dayText(day)}${isDone ? ", gelöst" : ""}`,
   streak: (now, most) => `${count(now, "Tag", "Tage")} in Folge; am meisten waren es ${most}.`,
-  outcome: ({ time, hints, isShown }) => (isShown ? "Die Lösung wurde gezeigt." : `Zeit ${time}, ${count(hints, "Tipp", "Tipps")}.`),
+  outcome: ({ time, hints, isShown }) =>
+    (isShown ? "Die Lösung wurde gezeigt." : `Zeit ${time}, ${count(hints, "Tipp", "Tipps")}.`),
   result: ({ kind, day, time, hints, isShown }) =>
     `${kind}${day ? `, ${day}` : ""}: ${isShown ? "gezeigt" : `gelöst in ${time}, ${count(hints, "Tipp", "Tipps")}`}`,
   noHint: (said) => `${said} Darum gibt es keinen Tipp.`,
@@ -181,7 +187,8 @@ export default {
     hintMore: "Noch einmal Tipp zeigt das Feld.",
     startedOver: "Alles ist wieder leer. Zurück bringt es wieder.",
     marked: "Gemerkt. Zur Marke führt hierher zurück.",
-    keptBefore: "Das Rätsel davor bleibt: Zurück im Browser führt hin.", resultCopied: "Das Ergebnis ist kopiert.", copied: "Der Link ist kopiert.",
+    keptBefore: "Das Rätsel davor bleibt: Zurück im Browser führt hin.", resultCopied: "Das Ergebnis ist kopiert.",
+    copied: "Der Link ist kopiert.",
     notCopied: "Die Adresse oben ist der Link.",
   },
   page: {
@@ -191,8 +198,11 @@ export default {
     hint: "Tipp", check: "Prüfen", solve: "Lösen",
     grade: "Grad", allNotes: "Alle Notizen", mark: "Merken", back: "Zur Marke", startOver: "Von vorn",
     share: "Teilen", paper: "Drucken",
-    pause: "Pause", goOn: "Weiter", zoom: "Größe", smaller: "kleiner", larger: "größer", brag: "Ergebnis teilen", calendar: "Kalender",
-    earlier: "ein Monat davor", later: "ein Monat danach", help: "Regeln, Tasten", keyboard: "Tasten", stop: "Anhalten", close: "Schließen", rest: "Zum Ende", solutions: "Lösungen", make: "Neues Rätsel", size: "Größe", difficulty: "Schwierigkeit", seed: "Nummer",
+    pause: "Pause", goOn: "Weiter", zoom: "Größe", smaller: "kleiner", larger: "größer", brag: "Ergebnis teilen",
+    calendar: "Kalender",
+    earlier: "ein Monat davor", later: "ein Monat danach", help: "Regeln, Tasten", keyboard: "Tasten",
+    stop: "Anhalten", close: "Schließen", rest: "Zum Ende", solutions: "Lösungen", make: "Neues Rätsel", size: "Größe",
+    difficulty: "Schwierigkeit", seed: "Nummer",
     any: "beliebig", picture: "Ein Bild", generate: "Neues Rätsel",
     open: "Ein Rätsel öffnen", begun: "Weiter mit", choose: "wählen",
     id: "Eine ID, ein Link (auch von f-puzzles oder puzz.link), oder ein Sudoku aus 81 Zeichen", enter: "Öffnen",

@@ -33,8 +33,8 @@ const NAMES = { last: "Last digit", hiddenSingle: "Hidden single", nakedSingle: 
   complete: "Complete", overlap: "Overlap", edge: "Edge", glue: "Glue", reach: "Out of reach" };
 const named = (reason) => (NAMES[nameOf(reason)] ? `${NAMES[nameOf(reason)]}: ` : "");
 
-// A link of a chain, in the short form that players know: a candidate that holds, since the one before doesn't, or one that doesn't,
-// since the one before holds. r5c9 is row 5, column 9.
+// A link of a chain, in the short form that players know: a candidate that holds, since the one before doesn't, or one that
+// doesn't, since the one before holds. r5c9 is row 5, column 9.
 const short = ({ cell: [row, column] }) => `r${row}c${column}`;
 function link(one, k, chain) {
   if (k % 2 === 0) return `${short(one)} isn’t ${one.number}`;

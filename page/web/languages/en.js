@@ -62,7 +62,8 @@ export default {
   columns: "columns", none: "none", clue: "clue", notes: "notes", corners: "in the corners",
   signs: { ".": "blank", "•": "dot", "#": "black", O: "bulb", "^": "tent", T: "tree" },
   states: { given: "given", met: "met", lit: "lit", broken: "against the rules", wrong: "wrong",
-    wrongNote: "wrong notes", marked: "marked", hint: "hint", differs: "differs", struck: "struck", tried: "tried out", then: "follows",
+    wrongNote: "wrong notes", marked: "marked", hint: "hint", differs: "differs", struck: "struck", tried: "tried out",
+    then: "follows",
     witness: "bars the others" },
   picture: (name) => `Correct. The puzzle is solved: ${name}.`,
   rule: ({ game, crossed }) => (crossed ? GAMES[game].crossed : GAMES[game].rule),
@@ -81,9 +82,11 @@ export default {
   help: {
     solo: ["Fill each blank cell with a number, so that each row, each column and each block has each number once.",
       "Where only one number is left for a cell, or only one cell of a row, column or block for a number, it stands there."],
-    pattern: ["The numbers at a row or column are the lengths of its black runs, in order. Between two runs there is a white cell at least.",
+    pattern: ["The numbers at a row or column are the lengths of its black runs, in order. Between two runs there is a white " +
+      "cell at least.",
       "A long run has to cover the middle of its line wherever it begins. That is a good start."],
-    lightup: ["Put bulbs into white cells. A bulb lights its row and column up to the next black cell. Each white cell has to be lit.",
+    lightup: ["Put bulbs into white cells. A bulb lights its row and column up to the next black cell. Each white cell has " +
+      "to be lit.",
       "No bulb lights another. A number tells how many bulbs stand beside its black cell."],
     tents: ["Put a tent beside each tree, not at a corner, so that each tree has a tent of its own.",
       "No two tents touch, not even at corners. The numbers tell how many tents a row or column has."],
@@ -100,7 +103,8 @@ export default {
   day: (day) => `The puzzle of ${dayText(day)}.`,
   dayName: (day, isDone) => `${dayText(day)}${isDone ? ", solved" : ""}`,
   streak: (now, most) => `${count(now, "day", "days")} in a row; the most were ${most}.`,
-  outcome: ({ time, hints, isShown }) => (isShown ? "The solution was shown." : `Time ${time}, ${count(hints, "hint", "hints")}.`),
+  outcome: ({ time, hints, isShown }) =>
+    (isShown ? "The solution was shown." : `Time ${time}, ${count(hints, "hint", "hints")}.`),
   result: ({ kind, day, time, hints, isShown }) =>
     `${kind}${day ? `, ${day}` : ""}: ${isShown ? "shown" : `solved in ${time}, ${count(hints, "hint", "hints")}`}`,
   noHint: (said) => `${said} So there is no hint.`,
@@ -174,7 +178,8 @@ export default {
     same: "That puzzle is on the table already.",
     hintMore: "Press Hint again for the cell.", startedOver: "All is blank again. Undo brings it back.",
     marked: "Marked. Back to the mark returns to this.",
-    keptBefore: "The puzzle before is kept: Back returns to it.", resultCopied: "The result is copied.", copied: "The link is copied.",
+    keptBefore: "The puzzle before is kept: Back returns to it.", resultCopied: "The result is copied.",
+    copied: "The link is copied.",
     notCopied: "The address above is the link.",
   },
   page: {
@@ -184,8 +189,11 @@ export default {
     hint: "Hint", check: "Check", solve: "Solve",
     grade: "Grade", allNotes: "All notes", mark: "Mark this", back: "Back to mark", startOver: "Start over",
     share: "Share", paper: "Print",
-    pause: "Pause", goOn: "Go on", zoom: "Zoom", smaller: "smaller", larger: "larger", brag: "Share the result", calendar: "Calendar",
-    earlier: "the month before", later: "the month after", help: "Rules, keys", keyboard: "Keys", stop: "Stop", close: "Close", rest: "To the end", solutions: "Solutions", make: "New puzzle", size: "Size", difficulty: "Difficulty", seed: "Seed",
+    pause: "Pause", goOn: "Go on", zoom: "Zoom", smaller: "smaller", larger: "larger", brag: "Share the result",
+    calendar: "Calendar",
+    earlier: "the month before", later: "the month after", help: "Rules, keys", keyboard: "Keys", stop: "Stop",
+    close: "Close", rest: "To the end", solutions: "Solutions", make: "New puzzle", size: "Size",
+    difficulty: "Difficulty", seed: "Seed",
     any: "any", picture: "A picture", generate: "New puzzle",
     open: "Open a puzzle", begun: "Go on with", choose: "choose",
     id: "An ID, a link (also of f-puzzles or puzz.link), or a sudoku of 81 characters", enter: "Open",

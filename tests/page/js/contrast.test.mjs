@@ -1,4 +1,5 @@
-// The contrast of what stands on what, by WCAG 2.2 from the colours of the style sheets: 4.5 to 1 for texts, 3 to 1 for lines that are
+// The contrast of what stands on what, by WCAG 2.2 from the colours of the style sheets: 4.5 to 1 for texts, 3 to 1 for lines
+// that are
 // counted by, for pictures, and for the ring of the focus.
 import assert from "node:assert/strict";
 import fs from "node:fs";
@@ -69,7 +70,8 @@ for (const scheme of ["light", "dark"]) {
   });
 
   test(`trees and tents, ${scheme}`, () => {
-    const [tree, tent] = ["tree.svg", "tent.svg"].map((name) => style(name).match(/fill="(#[0-9a-f]{6})"/g).map((fill) => fill.slice(6, -1)));
+    const [tree, tent] = ["tree.svg", "tent.svg"].map((name) =>
+      style(name).match(/fill="(#[0-9a-f]{6})"/g).map((fill) => fill.slice(6, -1)));
     for (const ground of ["paper", "hint", "house"]) {
       for (const picture of [tree, tent]) {
         assert.ok(Math.max(...picture.map((fill) => contrast(fill, all.tents[ground]))) >= 3, `${picture} on ${ground}`);

@@ -19,7 +19,8 @@ test("each game and level has seeds for more than a year, each once and in order
 
 test("a day has one seed, the next day the next one", () => {
   const seeds = [7, 11, 13];
-  assert.deepEqual(["2026-01-01", "2026-01-02", "2026-01-04", "2025-12-31"].map((day) => seedOf(seeds, day)), ["7", "11", "7", "13"]);
+  assert.deepEqual(["2026-01-01", "2026-01-02", "2026-01-04", "2025-12-31"].map((day) => seedOf(seeds, day)),
+    ["7", "11", "7", "13"]);
 });
 
 test("a month begins on its weekday", () => {
@@ -31,7 +32,8 @@ test("a month begins on its weekday", () => {
 
 test("days in a row count if a puzzle was solved on the day itself", () => {
   const done = (isOnDay = true) => ({ "solo 3x3 easy": { seconds: 9, hints: 0, isOnDay } });
-  const days = { "2026-11-26": done(), "2026-11-27": done(), "2026-11-28": done(), "2026-11-29": done(false), "2026-11-30": done() };
+  const days = { "2026-11-26": done(), "2026-11-27": done(), "2026-11-28": done(), "2026-11-29": done(false),
+    "2026-11-30": done() };
   assert.deepEqual(streak(days, "2026-12-01"), { now: 1, most: 3 });
   assert.deepEqual(streak({ ...days, "2026-12-01": done() }, "2026-12-01"), { now: 2, most: 3 });
   assert.deepEqual(streak(days, "2026-12-05"), { now: 0, most: 3 });

@@ -4,7 +4,8 @@
 // - each hint is right: what it says of a cell stands in the only solution;
 // - each hint has words in each language, and all but a guess tell first where to look;
 // - each of its steps holds, by a reading of its own (hints_check.mjs), none can be left out, and each is told by itself;
-// - where one step is enough one is told, and of these the simplest: the last digit of a house, a number's one place in a block, a
+// - where one step is enough one is told, and of these the simplest: the last digit of a house, a number's one place in a block,
+// a
 //   cell's one number, a number's one place in a line;
 // - if the grade is a rule set, the steps that it knows lead to the end; if it is `search n` they don't;
 // - the weakest rule set that settles the puzzle by these rules is the grade.
@@ -24,7 +25,8 @@ import { checkPresses, checkSolo, checkTrial, looksNear } from "./hints_check.mj
 
 const PROGRAM = process.env.PUZZLES || fileURLToPath(new URL("../../../crates/puzzles/out/puzzles", import.meta.url));
 const COUNT = Number(process.env.COUNT || 10);
-const SIZES = { solo: ["3x3", "3x3x", "3x3", "3x4"], pattern: ["10x10", "15x15"], lightup: ["7x7", "10x10"], tents: ["8x8", "10x10"] };
+const SIZES = { solo: ["3x3", "3x3x", "3x3", "3x4"], pattern: ["10x10", "15x15"], lightup: ["7x7", "10x10"],
+  tents: ["8x8", "10x10"] };
 const KINDS = ["step", "trial", "guess"];
 const BEYOND = { singles: [], houses: ["sets"], crossings: ["sets", "crossings"] }; // what Solo's rule sets look at
 const RULE_SETS = { solo: Object.keys(BEYOND), pattern: ["lines"], lightup: ["local"], tents: ["local"] };
@@ -32,7 +34,8 @@ const OF_GRADES = [...SIMPLE, "naked", "hidden", "crossing"]; // the kinds of st
 
 function ask(...words) {
   try {
-    return execFileSync(PROGRAM, words, { encoding: "utf8", timeout: 600_000, stdio: ["ignore", "pipe", "pipe"] }).trimEnd().split("\n");
+    return execFileSync(PROGRAM, words, { encoding: "utf8", timeout: 600_000, stdio: ["ignore", "pipe",
+      "pipe"] }).trimEnd().split("\n");
   } catch (fault) {
     if (fault.status > 0 && fault.status <= 4) return fault.stdout.trimEnd().split("\n");
     throw fault;
@@ -87,7 +90,8 @@ function played(id, puzzle, solution) {
 for (const game of Object.keys(SIZES)) {
   test(`${game}: hints lead to the end, and agree with grades`, { skip: !existsSync(PROGRAM) && "no built program" }, () => {
     for (let seed = 1, found = 0; found < COUNT; seed += 1) {
-      const [id, ...grid] = ask("generate", game, SIZES[game][seed % SIZES[game].length], "--seed", String(seed), "--budget", "1000");
+      const [id, ...grid] = ask("generate", game, SIZES[game][seed % SIZES[game].length], "--seed", String(seed),
+        "--budget", "1000");
       if (id === "exhausted") continue;
       const [grade] = ask("grade", game, "--", id)[0].split(" "), puzzle = read(game, id);
       assert.equal(played(id, puzzle, scan(puzzle, grid)), grade !== "search", `${id}: grade ${grade}`);

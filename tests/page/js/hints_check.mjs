@@ -1,8 +1,9 @@
-// What each hint has to be, seen anew: the rules of Solo and the counts of the other games are read here by their definitions, and
-// none of the reasoner's own findings is taken over. For hints.test.mjs. Each check gives texts of what is wrong.
+// What each hint has to be, seen anew: the rules of Solo and the counts of the other games are read here by their definitions,
+// and none of the reasoner's own findings is taken over. For hints.test.mjs. Each check gives texts of what is wrong.
 import { nameOf } from "../../../page/web/hints/names.js";
 import { presses } from "../../../page/web/presses.js";
-import { around, beside, blocksOf, columnsOf, diagonalsOf, isNumber, range, rowsOf, stretches } from "../../../page/web/puzzle.js";
+import { around, beside, blocksOf, columnsOf, diagonalsOf, isNumber, range, rowsOf,
+  stretches } from "../../../page/web/puzzle.js";
 
 const LONGEST = 800; // characters of one press
 const RANK = { last: 0, place: 3, single: 2 };
@@ -11,7 +12,8 @@ const RANK = { last: 0, place: 3, single: 2 };
 export function housesOf(puzzle) {
   const named = { row: rowsOf(puzzle), column: columnsOf(puzzle), block: blocksOf(puzzle), diagonal: diagonalsOf(puzzle) };
   const all = Object.entries(named).flatMap(([kind, lines]) => lines.map((cells, k) => ({ kind, k: k + 1, cells })));
-  return { all, cells: ([kind, k]) => named[kind][k - 1], sees: (a, b) => a !== b && all.some(({ cells }) => cells.includes(a) && cells.includes(b)) };
+  return { all, cells: ([kind, k]) => named[kind][k - 1], sees: (a, b) => a !== b
+    && all.some(({ cells }) => cells.includes(a) && cells.includes(b)) };
 }
 
 // The numbers that no filled cell bars, cell by cell.
@@ -19,7 +21,8 @@ export function seen(puzzle, houses, signs) {
   const numbers = range(puzzle.w, (k) => k + 1);
   return signs.map((sign, cell) => {
     if (sign !== ".") return new Set([Number(sign)]);
-    const near = new Set(houses.all.filter(({ cells }) => cells.includes(cell)).flatMap(({ cells }) => cells.map((at) => signs[at])));
+    const near = new Set(houses.all.filter(({ cells }) => cells.includes(cell)).flatMap(({ cells }) =>
+      cells.map((at) => signs[at])));
     return new Set(numbers.filter((number) => !near.has(String(number))));
   });
 }
@@ -38,17 +41,20 @@ export function holds(puzzle, houses, cans, signs, { why, struck, cells = [] }) 
     diagonal: () => KINDS.crossing(),
     seen: () => one(why.number) && seeAll(places(why.house, why.number)),
     naked: () => new Set(why.cells.flatMap((cell) => [...cans[cell]])).size === why.cells.length
-      && struck.every(([cell, number]) => why.numbers.includes(number) && houses.cells(why.house).includes(cell) && !why.cells.includes(cell)),
+      && struck.every(([cell, number]) => why.numbers.includes(number) && houses.cells(why.house).includes(cell)
+        && !why.cells.includes(cell)),
     hidden: () => why.numbers.length === why.cells.length
       && why.numbers.every((number) => places(why.house, number).every((cell) => why.cells.includes(cell)))
       && struck.every(([cell, number]) => why.cells.includes(cell) && !why.numbers.includes(number)),
     xwing: () => one(why.number) && why.lines.length === why.others.length
-      && why.lines.every((line) => places(line, why.number).every((cell) => why.others.some((other) => houses.cells(other).includes(cell))))
+      && why.lines.every((line) => places(line, why.number).every((cell) => why.others.some((other) =>
+        houses.cells(other).includes(cell))))
       && struck.every(([cell]) => why.others.some((other) => houses.cells(other).includes(cell))
         && !why.lines.some((line) => houses.cells(line).includes(cell))),
     swordfish: () => KINDS.xwing(),
     xywing: () => one(why.number) && cans[why.pivot].size === 2 && why.wings.every((wing) => houses.sees(wing, why.pivot))
-      && [...cans[why.pivot]].every((number) => why.wings.some((wing) => [...cans[wing]].every((each) => [number, why.number].includes(each))))
+      && [...cans[why.pivot]].every((number) => why.wings.some((wing) => [...cans[wing]].every((each) => [number,
+        why.number].includes(each))))
       && seeAll(why.wings),
     chain: () => linked(houses, cans, why.chain) && why.struck.every((each) =>
       [why.chain[0], why.chain.at(-1)].every((end) => bars(houses, end, each))),
@@ -85,7 +91,8 @@ export function checkSolo(puzzle, signs, told, values) {
   const faults = [];
   if (told.kind === "step" && !replay(-1)) faults.push("a step doesn't hold");
   if (told.kind === "step") steps.slice(0, -1).forEach((step, k) => replay(k) && faults.push(`step ${k + 1} isn't needed`));
-  for (const { struck } of steps) if (struck.some(([cell, number]) => values[cell] === number)) faults.push("the solution is struck");
+  const isStruck = steps.some(({ struck }) => struck.some(([cell, number]) => values[cell] === number));
+  if (isStruck) faults.push("the solution is struck");
   return [...faults, ...simplest(houses, fresh, signs, told), ...witnessed(houses, signs, steps)];
 }
 
@@ -102,7 +109,8 @@ function simplest(houses, cans, signs, told) {
   if (cans.some((can, cell) => blank(cell) && can.size === 1)) ranks.push(2);
   if (!ranks.length) return [];
   const { why } = told.steps.at(-1) || {}, rank = why?.kind === "place" && why.house[0] === "block" ? 1 : RANK[why?.kind] ?? 9;
-  return told.steps.length === 1 && rank === Math.min(...ranks) ? [] : [`rank ${rank} of ${told.steps.length} steps, and ${Math.min(...ranks)} is there`];
+  const least = Math.min(...ranks), count = told.steps.length;
+  return count === 1 && rank === least ? [] : [`rank ${rank} of ${count} steps, and ${least} is there`];
 }
 
 // What bars the others: filled cells, of which each sees a blank one, and in a first step all are seen.
@@ -118,10 +126,15 @@ function witnessed(houses, signs, steps) {
 
 // Of each game: one step at each press, none of them long, each with its words; the steps' names where players have some.
 export function checkPresses(words, puzzle, told) {
-  const all = presses(words, puzzle, told), count = told.steps.length, tried = (told.cases || []).reduce((sum, { path }) => sum + path.length + 1, 0);
-  const faults = all.filter(({ text }) => text.length > LONGEST || /undefined|NaN|\[object/.test(text)).map(({ text }) => `words: ${text}`);
-  if (["step", "trial"].includes(told.kind) && all.length !== 1 + count + tried) faults.push(`${all.length} presses for ${count} steps`);
-  for (const press of all.slice(1)) if (!press.marked.length || (!press.house.length && !press.shown.length)) faults.push(`nothing is lit: ${press.text}`);
+  const all = presses(words, puzzle, told), count = told.steps.length;
+  const tried = (told.cases || []).reduce((sum, { path }) => sum + path.length + 1, 0);
+  const isPoor = (text) => text.length > LONGEST || /undefined|NaN|\[object/.test(text);
+  const faults = all.filter(({ text }) => isPoor(text)).map(({ text }) => `words: ${text}`);
+  const isStep = ["step", "trial"].includes(told.kind);
+  if (isStep && all.length !== 1 + count + tried) faults.push(`${all.length} presses for ${count} steps`);
+  for (const { text, marked, house, shown } of all.slice(1)) {
+    if (!marked.length || (!house.length && !shown.length)) faults.push(`nothing is lit: ${text}`);
+  }
   const named = told.steps.filter(({ why }) => puzzle.block && why.kind !== "trial");
   return [...faults, ...named.filter(({ why }) => !nameOf(why)).map(({ why }) => `${why.kind} has no name`)];
 }

@@ -18,7 +18,8 @@ test("a wide one is turned, if that is enough", () => {
 
 test("of sheets each cell has one, and each sheet has room for its clues", () => {
   for (const [w, h, most] of [[120, 120, 60], [60, 40, 12], [36, 46, 1], [2, 120, 1]]) {
-    const rows = Array(h).fill(Array(most).fill(1)), columns = Array(w).fill(Array(most).fill(1)), puzzle = { w, h, rows, columns };
+    const rows = Array(h).fill(Array(most).fill(1)), columns = Array(w).fill(Array(most).fill(1)), puzzle =
+      { w, h, rows, columns };
     const { kind, sheets } = layout(puzzle), count = Array(w * h).fill(0);
     assert.equal(kind, "sheets");
     for (const { x, y } of sheets) {

@@ -72,8 +72,10 @@ test("a cell that is tried out shows what follows, cell by cell", () => {
 test("each step has a press, in both languages, with its name at the head", () => {
   const puzzle = read("solo", "3x3:zzzc");
   for (const [words, name] of [[en, "Hidden single: "], [de, "Versteckter Einer: "]]) {
-    const told = presses(words, puzzle, { kind: "step", cells: [5], values: [7], look: { why: { kind: "place", house: ["block", 2], number: 7 },
-      house: [3, 4, 5] }, steps: [{ why: { kind: "place", house: ["block", 2], number: 7 }, house: [3, 4, 5], witness: [], struck: [] }] });
+    const told = presses(words, puzzle, { kind: "step", cells: [5], values: [7], look: { why: { kind: "place",
+      house: ["block", 2], number: 7 },
+      house: [3, 4, 5] }, steps: [{ why: { kind: "place", house: ["block", 2], number: 7 }, house: [3, 4, 5],
+        witness: [], struck: [] }] });
     assert.equal(told.length, 2);
     assert.ok(told[1].text.startsWith(name), told[1].text);
   }
