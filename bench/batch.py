@@ -10,9 +10,8 @@ import pathlib
 import subprocess
 import time
 
-import shared
-from lib import words
-from lib.work import begin
+from support import words
+from puzzles._work import begin
 
 ANSWERS = {"none", "one", "several", "gave", "refused:"}
 RUN_SECONDS = 3600

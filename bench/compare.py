@@ -14,9 +14,8 @@ import shutil
 import subprocess
 import sys
 
-import shared
-from lib import real, words
-from lib.work import begin
+from support import real, words
+from puzzles._work import begin
 
 # Game, size, what the collection's program is told beside the size, and how many puzzles.
 GROUPS = (

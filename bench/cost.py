@@ -10,10 +10,9 @@ import subprocess
 import sys
 import time
 
-import shared
-from lib import real, words
-from lib.composed import blank, composed, lattice
-from lib.work import begin
+from support import real, words
+from support.composed import blank, composed, lattice
+from puzzles._work import begin
 
 BUDGETS = ["10000", "20000", ""]  # "" is the default
 CLOCK = 60.0  # seconds of a run

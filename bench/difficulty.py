@@ -12,9 +12,8 @@ import subprocess
 import sys
 import time
 
-import shared
-from lib import words
-from lib.work import begin
+from support import words
+from puzzles._work import begin
 
 BUDGETS = ["0", "10", "1000", "100000"]
 KINDS = [

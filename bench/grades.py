@@ -10,9 +10,8 @@ import statistics
 import subprocess
 import sys
 
-import shared
-from lib import real, words
-from lib.work import begin
+from support import real, words
+from puzzles._work import begin
 
 NAMES = {"solo": "Solo", "lightup": "Light Up", "tents": "Tents"}
 # Game, size, and of each level its name and what the collection's program is told behind the size.

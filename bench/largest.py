@@ -12,10 +12,9 @@ import sys
 import tempfile
 import time
 
-import shared
-from lib import words
-from lib.composed import blank, composed, tents
-from lib.work import begin
+from support import words
+from support.composed import blank, composed, tents
+from puzzles._work import begin
 
 SIDE = 120
 SIZE = f"{SIDE}x{SIDE}"

@@ -9,9 +9,8 @@ made one. Nothing is asserted.
 """
 import sys
 
-import shared
-from lib import words
-from lib.work import begin
+from support import words
+from puzzles._work import begin
 
 # The sizes of a game, ascending, and the values of --black, or none.
 KINDS = [

@@ -9,10 +9,9 @@ import random
 import subprocess
 import time
 
-import shared
-from lib import words
-from lib.composed import pattern
-from lib.work import begin
+from support import words
+from support.composed import pattern
+from puzzles._work import begin
 
 RUN_SECONDS = 600
 

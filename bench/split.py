@@ -16,9 +16,8 @@ import sys
 import tempfile
 import time
 
-import shared
-from lib import dask, real, words
-from lib.work import begin
+from support import dask, real, words
+from puzzles._work import begin
 
 # The name of a row, its words, whether lines are IDs (of the game, size and letters that follow) or seeds, how many lines are made,
 # and how often these are fed.

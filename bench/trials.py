@@ -8,9 +8,8 @@ import collections
 import subprocess
 import sys
 
-import shared
-from lib import real, words
-from lib.work import begin
+from support import real, words
+from puzzles._work import begin
 
 # Game, size, and what the collection's program is told beside the size: its letters for how hard a puzzle is to be.
 KINDS = [

@@ -1,95 +1,25 @@
 #!/usr/bin/env python3
-"""Solves puzzles by the library, which Python's own ctypes calls.
-
-usage: solve.py [--library FILE] GAME ID..
+"""Solves puzzles by the library, which `puzzles.library` calls. In a checkout it wants PYTHONPATH=python/src.
 
 FILE is the library, and else library/out/libpuzzles.so. It prints what the program prints for each ID, and the status is the
-greatest of them. Programs of your own may import `Puzzles`.
+greatest of them.
 """
 import argparse
-import ctypes
-import pathlib
 import sys
 
-GAMES = ("solo", "pattern", "lightup", "tents")
-BLACK = {"pattern": 50, "lightup": 20}  # per cent, as the program has it
-NO_MEMORY, TOO_SMALL = 5, 7
-REFUSED = (2, b"refused: words\n")
-FIRST_ROOM = 1 << 16
-MADE = pathlib.Path(__file__).resolve().parents[2] / "library" / "out" / "libpuzzles.so"
+from puzzles.library import Puzzles
 
-TEXT, BYTE, WORD = (ctypes.c_char_p, ctypes.c_size_t), ctypes.c_uint8, ctypes.c_uint64
-OUTPUT = (ctypes.c_char_p, ctypes.c_size_t, ctypes.POINTER(ctypes.c_size_t))
-CALLS = {
-    "solve": (BYTE, *TEXT, WORD), "solve_each": (BYTE, *TEXT, WORD), "check": (BYTE, *TEXT, *TEXT),
-    "grade": (BYTE, *TEXT, WORD, ctypes.c_bool), "generate": (BYTE, *TEXT, WORD, WORD, ctypes.c_uint32, BYTE),
-}
-
-
-def is_number(value, kind):
-    return 0 <= value < 1 << 8 * ctypes.sizeof(kind)
-
-
-class Puzzles:
-    """The library. Each call gives the program's status and what it writes; with status 5 or 6, for want of memory, nothing.
-    Texts are bytes. One of these is for one thread, since it keeps the room for answers."""
-
-    def __init__(self, file=MADE):
-        library = ctypes.CDLL(str(file))
-        self.calls = {name: getattr(library, f"puzzles_{name}") for name in CALLS}
-        for name, call in self.calls.items():
-            call.argtypes, call.restype = (*CALLS[name], *OUTPUT), ctypes.c_uint8
-        self.written, self.room = ctypes.c_size_t(), ctypes.create_string_buffer(FIRST_ROOM)
-
-    def solve(self, game, text, budget=100_000):
-        return self.answer("solve", game, text, len(text), budget)
-
-    def solve_each(self, game, lines, budget=100_000):
-        """The answers to the IDs that are lines of a text."""
-        return self.answer("solve_each", game, lines, len(lines), budget)
-
-    def check(self, game, text, grid):
-        return self.answer("check", game, text, len(text), grid, len(grid))
-
-    def grade(self, game, text, budget=100_000, traced=False):
-        return self.answer("grade", game, text, len(text), budget, traced)
-
-    def generate(self, game, size, seed, budget=100_000, tries=1_000, black=None):
-        if black is not None and game not in BLACK:
-            return REFUSED
-        share = BLACK.get(game, 0) if black is None else black
-        return self.answer("generate", game, size, len(size), seed, budget, tries, share)
-
-    def answer(self, name, game, *words):
-        """What a call says. ctypes would cut a number that doesn't fit, so that is refused. An answer that is longer than
-        the room is asked for again."""
-        numbers = (word for word in zip(words, CALLS[name][1:]) if isinstance(word[0], int))
-        if game not in GAMES or not all(is_number(*word) for word in numbers):
-            return REFUSED
-        while True:
-            output = (self.room, len(self.room), self.written)
-            status = self.calls[name](GAMES.index(game), *words, *output)
-            if status != TOO_SMALL:
-                return status, self.room.raw[:self.written.value] if status < NO_MEMORY else b""
-            self.room = ctypes.create_string_buffer(self.written.value)
-
-
-def main():
-    form = argparse.ArgumentParser(description=__doc__, formatter_class=argparse.RawDescriptionHelpFormatter)
-    form.add_argument("--library", metavar="FILE", default=MADE)
-    form.add_argument("game", metavar="GAME")
-    form.add_argument("ids", metavar="ID", nargs="+")
-    asked, greatest = form.parse_args(), 0
-    try:
-        puzzles = Puzzles(asked.library)
-    except (OSError, AttributeError) as fault:
-        sys.exit(f"solve.py: no library of puzzles: {fault}")
-    for text in asked.ids:
-        status, said = puzzles.solve(asked.game, text.encode("utf-8", "surrogateescape"))
-        sys.stdout.buffer.write(said)
-        greatest = max(greatest, status)
-    return greatest
-
-
-if __name__ == "__main__":
-    sys.exit(main())
+form = argparse.ArgumentParser(description=__doc__, formatter_class=argparse.RawDescriptionHelpFormatter)
+form.add_argument("--library", metavar="FILE", default="library/out/libpuzzles.so")
+form.add_argument("game", metavar="GAME")
+form.add_argument("ids", metavar="ID", nargs="+")
+asked, greatest = form.parse_args(), 0
+try:
+    puzzles = Puzzles(asked.library)
+except (OSError, AttributeError) as fault:
+    sys.exit(f"solve.py: no library of puzzles: {fault}")
+for text in asked.ids:
+    status, answer = puzzles.solve(asked.game, text.encode("utf-8", "surrogateescape"))
+    sys.stdout.buffer.write(answer)
+    greatest = max(greatest, status)
+sys.exit(greatest)

@@ -1,6 +1,6 @@
 // The games: their sizes that are offered, the sign of a filled cell, and a small puzzle of each. `levels` has the sizes of which
 // not each level is made in time, with those that are. A pair of size and level is offered if of 20 puzzles 19 come within 3
-// seconds: `outside/levels.mjs` tells that, and bench/README.md has its table.
+// seconds: `bench/levels.mjs` tells that, and bench/README.md has its table.
 
 export const GAMES = {
   solo: { name: "Solo", sizes: "2x2 2x3 3x3 3x3x 3x4 4x4", usual: "3x3",

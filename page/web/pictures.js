@@ -1,4 +1,4 @@
-// Drawings as puzzles of Pattern. Each has one solution, the drawing, which `outside/page.py` asks the program.
+// Drawings as puzzles of Pattern. Each has one solution, the drawing, which `tests/page` asks the program.
 export const PICTURES = {
   house: "10x10:1/7/3.1/4.4/5.4/5.1/4.2.1/3.1/7/1/2/4/6/8/10/1.1/1.2.1.1/1.2.1.1/1.2.1/8",
   boat: "10x10:1.1/2.2/3.3/4.3/5.3/10/3/4.3/3.2/2.1/1/2/3.1/4.2/5.3/6.3/1/10/8/6",

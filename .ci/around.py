@@ -1,0 +1,257 @@
+"""The second half of .ci/run: the tests around the proved core, and the closing line over both halves.
+
+usage: .ci/around.py STATUS LOG [PART..]     status and output of `rt ci`; without a PART all of them run
+
+Each part has bounds (part.py). One that needs what isn't there is skipped, by name. As root with CI=true what is missing of
+.ci/needs is installed by apt-get first; where the registry isn't reached it stays missing.
+"""
+import concurrent.futures
+import os
+import pathlib
+import re
+import shutil
+import subprocess
+import sys
+import tempfile
+import time
+import traceback
+import xml.etree.ElementTree
+
+HERE = pathlib.Path(__file__).resolve().parent
+TOP = HERE.parent
+PROGRAM = TOP / "crates/puzzles/out/puzzles"
+CLOSING = re.compile(r"^(\d+) passed, (\d+) failed$", re.M)
+APT_SECONDS = 600
+CORES = os.cpu_count() or 1
+SHOWN = 4000  # letters of what a failed part wrote
+COMMIT = "commit that git can read"
+SCRIPTS = {  # words behind python/run, and what it needs: programs, modules, or files that were built
+    "promises": (["tests/tree/promises.py"], []),
+    "documents": (["tests/tree/documents.py"], []),
+    "types": (["tests/tree/search_types.py"], ["rt", COMMIT]),
+    "growths": (["tests/program/refuse_growths.py", "PROGRAM"], ["cc"]),
+    "memory": (["tests/program/search_memory.py", "PROGRAM"], ["cc"]),
+    "library": (["tests/library/library.py", "--puzzles=300", "--calls=20000", "--built=BUILT", "PROGRAM"],
+                ["cc", "nm", "libpuzzles.so"]),
+    "module": (["tests/library/wasm.py", "--engines=node", "--puzzles=300", "--built=BUILT", "PROGRAM"],
+               ["cc", "node", "libpuzzles.so", "puzzles.wasm"]),
+}
+SECONDS, TESTS_SECONDS, BUILD_SECONDS = 1200, 4800, 7200  # of the processor; ten times what a part takes
+
+
+def said(words):
+    print(f"gate: {words}", flush=True)
+
+
+def python():
+    """The Python that has Debian's packages, or else this one."""
+    other = shutil.which("python3", path=os.defpath)
+    return other if other and has_module("pytest", other) else sys.executable
+
+
+def has_module(name, of=sys.executable):
+    return not subprocess.run([of, "-c", f"import {name}"], capture_output=True, check=False, cwd=os.sep).returncode
+
+
+def is_program(name):
+    """Whether a program can be run; a compiler of C finds the C library's headers too."""
+    words = ["cc", "-E", "-include", "dlfcn.h", "-x", "c", os.devnull]
+    return bool(shutil.which(name)) and (name != "cc" or not subprocess.run(words, capture_output=True, check=False).returncode)
+
+
+def lacking():
+    """The packages of .ci/needs whose probe isn't there. One without a probe goes with the line above it."""
+    debian, is_lacking = shutil.which("python3", path=os.defpath), False
+    for line in (HERE / "needs").read_text().splitlines():
+        if line and not line.startswith("#"):
+            package, probe = line.split()[:2]
+            if probe != "-":
+                is_lacking = not (is_program(probe) or debian and probe.isidentifier() and has_module(probe, debian))
+            if is_lacking:
+                yield package
+
+
+def install():
+    """What is missing, on a machine that is there for this run alone."""
+    missing = [*lacking()]
+    if not missing or os.environ.get("CI") != "true" or os.geteuid() or not shutil.which("apt-get"):
+        return
+    how = ["apt-get", "-q", "-y", "-o", "Acquire::Retries=1", "-o", "Acquire::http::Timeout=20", "-o", "DPkg::Lock::Timeout=60"]
+    quiet = {"stdin": subprocess.DEVNULL, "stdout": subprocess.DEVNULL, "stderr": subprocess.DEVNULL,
+             "env": {**os.environ, "DEBIAN_FRONTEND": "noninteractive"}, "check": False}
+    end = time.monotonic() + APT_SECONDS
+
+    def apt_get(*words):
+        return not subprocess.run([*how, *words], timeout=max(end - time.monotonic(), 1), **quiet).returncode
+    try:
+        apt_get("update")  # where this fails, old lists may still do
+        if not apt_get("install", "--no-install-recommends", *missing):
+            for package in missing:  # one that this Debian hasn't holds no other back
+                apt_get("install", "--no-install-recommends", package)
+    except (subprocess.SubprocessError, OSError) as fault:
+        said(f"apt-get: {type(fault).__name__}; what is missing is skipped")
+
+
+class Gate:
+    """What passed and failed, what was skipped with its reason, and a folder for what is built and told."""
+
+    def __init__(self):
+        self.passed, self.failed, self.skipped = 0, [], []
+        self.folder = pathlib.Path(tempfile.mkdtemp(prefix="puzzles-gate-"))
+        self.built, self.python = self.folder / "library", sys.executable
+
+    def is_there(self, probe):
+        if probe == COMMIT:
+            words = ["git", "-C", str(TOP), "rev-parse", "--verify", "HEAD"]
+            return bool(shutil.which("git")) and not subprocess.run(words, capture_output=True, check=False).returncode
+        return bool(is_program(probe) or (self.built / probe).is_file()
+                    or probe.isidentifier() and has_module(probe, self.python))
+
+    def missing(self, name, probes):
+        """Whether something is missing that a part needs, which is then skipped."""
+        lacks = [probe for probe in probes if not self.is_there(probe)]
+        if lacks:
+            self.skipped.append((name, f"no {lacks[0]}"))
+        return lacks
+
+    def run(self, name, seconds, words, **more):
+        """The status of a part and what it wrote. Without a status it was ended, and has failed."""
+        log = self.folder / f"{name}.log"
+        for key, value in {"PROGRAM": PROGRAM, "BUILT": self.built}.items():
+            words = [str(word).replace(key, str(value)) for word in words]
+        done = subprocess.run([sys.executable, HERE / "part.py", str(seconds), log, *words], cwd=TOP, stdin=subprocess.DEVNULL,
+                              stdout=subprocess.PIPE, text=True, check=False,
+                              env={**os.environ, "PYTHONDONTWRITEBYTECODE": "1", **more})
+        wrote = log.read_text(errors="replace") if log.exists() else ""
+        clock, used, why = [*done.stdout.strip().split(" ", 2), "", "", ""][:3]
+        said(f"{name}: {clock} s, {used} of the processor")
+        if why or not used:
+            self.failed.append(f"{name}: {why or f'ended with status {done.returncode}'}")
+            self.show(name, wrote)
+            return None, wrote
+        return done.returncode, wrote
+
+    def show(self, name, wrote):
+        print(f"--- the end of what {name} wrote ---\n{wrote[-SHOWN:]}\n---", flush=True)
+
+    def script(self, name, words, probes):
+        """A check that is one test."""
+        if self.missing(name, probes):
+            return
+        status, wrote = self.run(name, SECONDS, [self.python, "python/run", *words])
+        if status == 0:
+            self.passed += 1
+        elif status is not None:
+            self.failed.append(f"{name}: status {status}")
+            self.show(name, wrote)
+
+    def build(self):
+        """The library and the module, out of the proofs that `rt ci` left."""
+        parts = [part for part, probes in {"so": ["cc"], "wasm": ["wasm-ld", "wasm-opt"]}.items()
+                 if not self.missing(f"library/build.py {part}", ["rt", *probes])]
+        if parts:
+            status, wrote = self.run("build", BUILD_SECONDS, [sys.executable, "library/build.py", f"--to={self.built}",
+                                                              f"--jobs={CORES}", *parts])
+            if status:
+                self.failed.append(f"library/build.py: status {status}")
+                self.show("build", wrote)
+
+    def pytest(self):
+        if not has_module("pytest", self.python):
+            self.skipped.append(("tests/", "no pytest (python3-pytest)"))
+            return
+        words = [self.python, "-m", "pytest", "-q", "-p", "no:cacheprovider", f"--junitxml={self.folder}/pytest.xml",
+                 "--program=PROGRAM", "--library=BUILT/libpuzzles.so", "--module=BUILT/puzzles.wasm",
+                 *(["-n", str(min(CORES, 8))] if has_module("xdist", self.python) else [])]
+        status, wrote = self.run("pytest", TESTS_SECONDS, words)
+        if status is None:
+            return
+        if status not in (0, 1):
+            self.failed.append(f"pytest: status {status}, without a count")
+        else:
+            self.count(xml.etree.ElementTree.parse(self.folder / "pytest.xml"))
+        if status:
+            self.show("pytest", wrote)
+
+    def count(self, tree):
+        for one in tree.iter("testcase"):
+            name, skip = f"{one.get('classname')}::{one.get('name')}", one.find("skipped")
+            if one.find("failure") is not None or one.find("error") is not None:
+                self.failed.append(name)
+            elif skip is not None:
+                self.skipped.append((name, skip.get("message")))
+            else:
+                self.passed += 1
+
+    def node(self):
+        """The tests of the page's scripts, by the runner that Node has."""
+        if self.missing("tests/page/js", ["node"]):
+            return
+        words = ["node", "--test", *sorted((TOP / "tests/page/js").glob("*.test.mjs"))]
+        status, wrote = self.run("node", TESTS_SECONDS, words, PUZZLES=str(PROGRAM))
+        counts = {name: int(number) for name, number in re.findall(r"^\S+ (pass|fail|cancelled) (\d+)$", wrote, re.M)}
+        if status is None:
+            return
+        self.passed += counts.get("pass", 0)
+        self.skipped += re.findall(r"^ok \d+ - (.*?) # SKIP (.*)$", wrote, re.M)
+        faults = counts.get("fail", 0) + counts.get("cancelled", 0)
+        if status or faults or not counts.get("pass"):
+            self.failed += re.findall(r"^not ok \d+ - (.*)$", wrote, re.M) or ["tests/page/js"] * max(faults, 1)
+            self.show("node", wrote)
+
+    def all(self, only):
+        """What needs no library beside its building, then the rest, and pytest's tests, which take all cores."""
+        self.python = python()
+
+        def begin(pool, names):
+            return [pool.submit(self.script, name, *SCRIPTS[name]) for name in names if not only or name in only]
+        with concurrent.futures.ThreadPoolExecutor(CORES) as pool:
+            waits = [pool.submit(self.build)] if not only or {"library", "module"} & set(only) else []
+            others = begin(pool, [name for name in SCRIPTS if name not in ("library", "module")])
+            others += [pool.submit(self.node)] if not only or "node" in only else []
+            for wait in waits:
+                wait.result()
+            for wait in [*others, *begin(pool, ["library", "module"])]:
+                wait.result()
+        if not only or "pytest" in only:
+            self.pytest()
+
+    def close(self):
+        """The closing line and the status."""
+        reasons = {}
+        for name, why in self.skipped:
+            reasons.setdefault(why, []).append(name)
+        for why, names in sorted(reasons.items()):
+            said(f"skipped, {why}: {len(names)}: {', '.join(names[:4])}{', ..' if len(names) > 4 else ''}")
+        for name in self.failed:
+            said(f"FAILED {name}")
+        if self.failed:
+            said(f"what was written lies in {self.folder}")
+        else:
+            shutil.rmtree(self.folder, ignore_errors=True)
+        print(f"{self.passed} passed, {len(self.failed)} failed, {len(self.skipped)} skipped", flush=True)
+        return 1 if self.failed else 0
+
+
+def main():
+    status, log, *only = sys.argv[1:]
+    gate, closing = Gate(), CLOSING.findall(pathlib.Path(log).read_text(errors="replace"))
+    if closing:
+        gate.passed = int(closing[-1][0])
+        gate.failed += [f"rt ci ({number + 1})" for number in range(int(closing[-1][1]))]
+    if not gate.failed and (int(status) or not closing):
+        gate.failed.append(f"rt ci: status {status}" + ("" if closing else ", without a count"))
+    if gate.failed and not only:
+        gate.skipped.append(("all tests around the core", "rt ci failed"))
+    else:
+        try:
+            install()
+            gate.all(only)
+        except Exception as fault:  # the closing line has to come
+            traceback.print_exc()
+            gate.failed.append(f"around.py: {type(fault).__name__}: {fault}")
+    return gate.close()
+
+
+if __name__ == "__main__":
+    sys.exit(main())

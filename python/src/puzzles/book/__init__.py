@@ -1,0 +1,1 @@
+"""Books of puzzles for print."""

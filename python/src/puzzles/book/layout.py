@@ -1,0 +1,116 @@
+"""How large drawings are, and which stand on one page. Lengths are millimetres."""
+import dataclasses
+import math
+
+from .._work import REFUSED, Fault
+from ..ids import Room
+from ..ids.drawing import DIGIT_HEIGHT, number_size
+
+TOP, BOTTOM = 13, 18
+HEADING, LABEL, CAPTION, GAP = 14, 6, 5, 6
+SOLVED_GAP = 4
+ID_WIDTH, ID_HEIGHT = 1.17, 2.45  # of a letter of an ID
+ID_SHARE = .68  # of a column
+LEAST_CELL = 4.0
+LEAST_SOLVED_CELL = {"pattern": 2.4, "tents": 4.0}
+SOLVED_SIDE, SOLVED_CELLS = 34, 12  # a smaller Pattern or Tents is as wide as one of so many cells
+COMFORT = {"solo": 6.5, "pattern": 5.75, "lightup": 6.0, "tents": 6.0}
+GRIDS = ((3, 4), (3, 3), (2, 4), (2, 3), (2, 2), (1, 3), (1, 2), (1, 1))  # puzzles across and down
+
+
+@dataclasses.dataclass(frozen=True)
+class Paper:
+    """A size to which books are cut, with its margins at the sides, and the points of its text."""
+    width: float
+    height: float
+    side: float
+    text: float
+
+
+PAPERS = {"A4": Paper(210, 297, 15, 10), "letter": Paper(215.9, 279.4, 15, 10), "8x10": Paper(203.2, 254, 14, 10),
+          "6x9": Paper(152.4, 228.6, 12, 9), "A5": Paper(148, 210, 12, 9)}
+
+
+@dataclasses.dataclass(frozen=True)
+class Sheet:
+    """The part of a page that is printed on, below its heading."""
+    paper: Paper
+    gutter: float = 0  # more margin where the page is bound
+    is_bare: bool = False  # no IDs
+    is_large: bool = False  # one puzzle a page
+
+    @property
+    def width(self):
+        return self.paper.width - 2 * self.paper.side - self.gutter
+
+    @property
+    def height(self):
+        return self.paper.height - TOP - BOTTOM - HEADING
+
+    @property
+    def largest_cell(self):
+        return 22.0 if self.is_large else 11.0
+
+    @property
+    def least_digit(self):
+        """Of a solution: 6 points, or 10 in large print."""
+        return (10 if self.is_large else 6) / 72 * 25.4
+
+
+@dataclasses.dataclass(frozen=True)
+class Places:
+    """Where the puzzles of a chapter stand on its pages."""
+    across: int
+    down: int
+    cell: float
+    spare: float  # above and below each puzzle together
+
+
+def check(sheet, puzzle):
+    """Tells before anything is made that grids of a size are too large, whatever their clues."""
+    cell = max(LEAST_CELL, solved_cell(sheet, puzzle))
+    if puzzle.width * cell > sheet.width or puzzle.height * cell + LABEL > sheet.height:
+        raise Fault(f"a puzzle of {puzzle.game} {puzzle.size} doesn't fit the paper with cells of {cell:.1f} mm", REFUSED)
+
+
+def places(sheet, puzzles, ids):
+    """Where puzzles stand: on the fewest pages that leave cells to write in, and on these as few on each and as large as may be."""
+    game, found, fewest = puzzles[0].game, None, 0
+    widest, tallest = (max(getattr(Room(puzzle, False), side) for puzzle in puzzles) for side in ("width", "height"))
+    for across, down in GRIDS[-1:] if sheet.is_large else GRIDS:
+        column, pages = (sheet.width + GAP) / across - GAP, math.ceil(len(puzzles) / (across * down))
+        id_lines = 0 if sheet.is_bare else math.ceil(max(map(len, ids)) * ID_WIDTH / (column * ID_SHARE))
+        room = sheet.height / down - LABEL - CAPTION - ID_HEIGHT * id_lines
+        cell = min(sheet.largest_cell, column / widest, room / tallest)
+        least = LEAST_CELL if across == down == 1 else COMFORT[game]
+        if cell >= least and (not found or pages == fewest and cell >= found.cell):
+            found, fewest = Places(across, down, cell, room - cell * tallest), pages
+    if not found:
+        raise Fault(f"a puzzle of {game} {puzzles[0].size} doesn't fit the paper: its cells would be {cell:.1f} mm wide", REFUSED)
+    return found
+
+
+def solved_cell(sheet, puzzle):
+    """The millimetres of a cell of a solution, by the height of the numbers in it."""
+    if puzzle.game in LEAST_SOLVED_CELL:
+        least = LEAST_SOLVED_CELL[puzzle.game] * (1.5 if sheet.is_large else 1)
+        return max(least, SOLVED_SIDE / max(puzzle.width, puzzle.height, SOLVED_CELLS))
+    return sheet.least_digit / (number_size(puzzle, True) * DIGIT_HEIGHT) * 1.01
+
+
+def shelves(sheet, sizes):
+    """Pages of rows of numbers of drawings, for drawings of these widths and heights, in order."""
+    pages, across, down, tallest = [[[]]], 0, 0, 0
+    for number, (width, height) in enumerate(sizes):
+        if width > sheet.width or height + LABEL > sheet.height:
+            raise Fault(f"the solution of puzzle {number + 1} doesn't fit the paper with numbers that can be read", REFUSED)
+        if across + width > sheet.width:
+            pages[-1].append([])
+            across, down, tallest = 0, down + tallest, 0
+        if down + max(tallest, height + LABEL + SOLVED_GAP) > sheet.height + SOLVED_GAP:
+            row = pages[-1].pop()
+            pages.append([row] if row else [[]])
+            down = 0
+        pages[-1][-1].append(number)
+        across, tallest = across + width + SOLVED_GAP, max(tallest, height + LABEL + SOLVED_GAP)
+    return pages

@@ -1,0 +1,179 @@
+"""The pages of a book as HTML: a title, a page of rules for each game, puzzles, and solutions at the back."""
+import html
+import itertools
+import pathlib
+import string
+
+from . import layout
+from .layout import places, shelves, solved_cell
+from ..ids import Room, read, read_grid, svg
+
+CONTENTS_HEIGHT = 7.2  # of a line, in millimetres
+RULES_ROOM = 225  # millimetres of a page that has all rules of a game, if grades are told
+BREAK = "<hr>"  # between two pages of a file
+EXAMPLES = {"solo": "2x2:1b4i3_2a", "pattern": "5x5:2/4/4/4/2/1.1/5/5/3/1", "lightup": "5x5:2c0cBfB01c2a1B",
+            "tents": "5x5:ca_bgdb,1,2,1,1,1,3,0,1,1,1"}
+STYLE = pathlib.Path(__file__).resolve().with_name("book.css")
+
+
+class Book:
+    """Pages by number, from 1 on. The first is a right one."""
+
+    def __init__(self, title, sheet, texts):
+        self.title, self.sheet, self.texts, self.pages, self.heads = title, sheet, texts, [], set()
+
+    def add(self, words, foot="", has_number=True):
+        number = len(self.pages) + 1
+        end = f"<p class=foot><span>{foot}</span><span>{number}</span></p>" if number > 1 and has_number else ""
+        side = "right" if number % 2 else "left"
+        self.pages.append(f"<section id=page-{number} class={side}>{words}{end}</section>")
+        return number
+
+    def head(self, words, more=""):
+        """The head of a page. It is a heading where its words come first, so that the outline has it once."""
+        tag, end = ("p class=head", "p") if words in self.heads else ("h2", "h2")
+        self.heads.add(words)
+        return f"<{tag}>{words}{more and f' <small>{more}</small>'}</{end}>"
+
+    def begin_right(self):
+        """Leaves a left page blank, so that the next one is a right one."""
+        if len(self.pages) % 2:
+            self.add("", has_number=False)
+
+    def fill(self, multiple):
+        """Adds blank pages, so that their number is a multiple."""
+        while len(self.pages) % multiple:
+            self.add("", has_number=False)
+
+    def html(self):
+        paper = self.sheet.paper
+        style = string.Template(STYLE.read_text(encoding="utf-8")).substitute(
+            width=paper.width, height=paper.height, side=paper.side, inner=paper.side + self.sheet.gutter, text=paper.text,
+            drop=paper.height / 5, room=self.sheet.height, top=layout.TOP, bottom=layout.BOTTOM, heading=layout.HEADING,
+            gap=layout.GAP, solved_gap=layout.SOLVED_GAP, label=layout.LABEL, caption=layout.CAPTION)
+        return (f'<!doctype html><html lang="{self.texts["language"]}"><meta charset="utf-8"><title>{html.escape(self.title)}'
+                f"</title><style>{style}</style><body>{''.join(self.pages)}")
+
+    def name(self, puzzle):
+        return self.texts["names"]["solo x" if puzzle.is_crossed else puzzle.game]
+
+    def drawing(self, puzzle, cells, cell, caption, below="", is_small=True):
+        drawn = svg(puzzle, cells, cell, name=f"{html.unescape(self.name(puzzle))} {puzzle.size}", is_small=is_small)
+        return f"<figure><figcaption>{caption}</figcaption>{drawn}{below}</figure>"
+
+
+def add_front(book, count, front):
+    """The first page, and those of a file of HTML."""
+    texts = book.texts
+    counted = texts["one puzzle"] if count == 1 else texts["puzzles"].format(count=count)
+    book.add(f"<h1>{html.escape(book.title)}</h1><p>{counted}</p>")
+    for part in front.split(BREAK) if front else []:
+        book.add(part, has_number=False)
+
+
+def add_contents(book, listed, count):
+    """Pages for so many lines of contents: heading, numbers of puzzles, page."""
+    rows = [f"<tr><td><a href=#page-{page}>{name}</a><td>{numbers}<td><a href=#page-{page}>{page}</a>"
+            for name, numbers, page in listed] or [""] * count
+    step = int(book.sheet.height / CONTENTS_HEIGHT)
+    for first in range(0, len(rows), step):
+        book.add(f"{book.head(book.texts['contents'])}<table class=contents>{''.join(rows[first:first + step])}</table>")
+
+
+def add_rules(book, game, solve):
+    """The rules of a game, on one page or two; `solve` gives the rows of the only solution of an ID."""
+    texts, puzzle = book.texts, read(game, EXAMPLES[game])
+    solved, cell = read_grid(puzzle, solve(game, EXAMPLES[game])), min(9, 45 / puzzle.width)
+    head = book.head(how(texts, game), texts["other names"][game])
+    drawn = "".join(book.drawing(puzzle, cells, cell, caption, is_small=False)
+                    for cells, caption in ((None, texts["the puzzle"]), (solved, texts["its solution"])))
+    rules = (f"<ol>{''.join(f'<li>{rule}</li>' for rule in texts['rules'][game])}</ol>"
+             f"<p class=part>{texts['example']}</p><div class=example>{drawn}</div>")
+    begin = f"<p class=part>{texts['how to begin']}</p><p>{texts['beginnings'][game]}</p>"
+    meanings = f"<p>{texts['one solution']}</p>" if book.sheet.is_bare else grades(texts, game)
+    if book.sheet.is_bare or book.sheet.height > RULES_ROOM:
+        return book.add(head + rules + begin + meanings)
+    number = book.add(head + rules)
+    book.add(book.head(how(texts, game)) + begin + meanings)
+    return number
+
+
+def how(texts, game):
+    return texts["how"].format(name=texts["names"][game])
+
+
+def grades(texts, game):
+    """What the grades of a game mean."""
+    search, meant = texts["grades"]["search"].format(trials=4), texts["meaning of a search"].format(trials=4)
+    rows = [*((texts["grades"][name], words) for name, words in texts["meanings"][game].items()), (search, meant)]
+    return (f"<p class=part>{texts['what the grades mean']}</p><p>{texts['one solution']} {texts['by the grade']}</p>"
+            f"<table>{''.join(f'<tr><th>{name}<td>{words}' for name, words in rows)}</table>"
+            f"<p>{texts['meanings of levels'][game]}</p>")
+
+
+def heading(book, asked, puzzle):
+    """What a chapter is called; the size of Solo counts blocks."""
+    words = {"name": book.name(puzzle), "size": asked.size, "width": puzzle.width, "height": puzzle.height,
+             "level": book.texts["levels"][asked.level], "file": html.escape(asked.size)}
+    kind = "heading of a file" if asked.ids else "heading of any" if asked.level == "any" else "heading"
+    return book.texts[kind].format(**words)
+
+
+def grade_of(texts, grade):
+    word, _, trials = grade.partition(" ")
+    return texts["grades"][word].format(trials=trials)
+
+
+def add_chapter(book, asked, entries, page_of_solution):
+    """The pages of a chapter; each puzzle's page is kept in its entry."""
+    texts, puzzle = book.texts, entries[0].puzzle
+    at = places(book.sheet, [entry.puzzle for entry in entries], [entry.id for entry in entries])
+    words, step = heading(book, asked, puzzle), at.across * at.down
+    is_told = puzzle.block and "{size}" in texts["heading"] and not asked.ids
+    cells = texts["cells"].format(width=puzzle.width, height=puzzle.height) if is_told else ""
+    rows = f"repeat({at.down},{book.sheet.height / at.down:.2f}mm)"
+    style = f"grid-template:{rows}/repeat({at.across},1fr);padding-top:{at.spare / 2:.2f}mm"
+    for first in range(0, len(entries), step):
+        some = entries[first:first + step]
+        for entry in some:
+            entry.page = len(book.pages) + 1
+        figures = "".join(figure(book, entry, at.cell) for entry in some)
+        book.add(f"{book.head(words, cells)}<div class=puzzles style='{style}'>{figures}</div>",
+                 foot(texts, {page_of_solution.get(entry.number, 0) for entry in some}))
+
+
+def figure(book, entry, cell):
+    """A puzzle with its number, and what else stands beside it."""
+    if book.sheet.is_bare:
+        return book.drawing(entry.puzzle, None, cell, f"<b>{entry.number}</b>")
+    width = max(Room(entry.puzzle, False).width * cell, 40)
+    below = f"<p class=id style=max-width:{width:.1f}mm>{html.escape(entry.id)}</p>"
+    return book.drawing(entry.puzzle, None, cell, f"<b>{entry.number}</b> · {grade_of(book.texts, entry.grade)}", below)
+
+
+def foot(texts, pages):
+    """Where the solutions of a page are."""
+    links = [f"<a href=#page-{page}>{page}</a>" for page in sorted(pages)]
+    if len(links) == 1:
+        return texts["page of solutions"].format(page=links[0])
+    return texts["pages of solutions"].format(pages=f"{', '.join(links[:-1])} {texts['and']} {links[-1]}")
+
+
+def numbered(texts, numbers):
+    """The numbers of puzzles that follow one another."""
+    return f"{numbers[0]}" if len(numbers) == 1 else texts["range"].format(first=numbers[0], last=numbers[-1])
+
+
+def add_solutions(book, entries):
+    """The solutions; gives the page of each by the puzzle's number."""
+    cells = [solved_cell(book.sheet, entry.puzzle) for entry in entries]
+    rooms = [Room(entry.puzzle, True) for entry in entries]
+    sizes, found = [(room.width * cell, room.height * cell) for room, cell in zip(rooms, cells)], {}
+    for rows in shelves(book.sheet, sizes):
+        drawn = [[book.drawing(entries[at].puzzle, entries[at].cells, cells[at], f"<b>{entries[at].number}</b>") for at in row]
+                 for row in rows]
+        there = [entries[at].number for at in itertools.chain(*rows)]
+        number = book.add(book.head(book.texts["solutions"], numbered(book.texts, there))
+                          + "".join(f"<div class=row>{''.join(row)}</div>" for row in drawn))
+        found.update((one, number) for one in there)
+    return found

@@ -1,0 +1,1 @@
+"""Collections of puzzles, in a table of SQLite."""

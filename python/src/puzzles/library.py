@@ -1,0 +1,84 @@
+"""Calls libpuzzles.so by ctypes: `Puzzles(FILE).solve("solo", b"2x2:p")` gives the program's status and text.
+
+It imports nothing of this package, so that a process which has it alone begins at once.
+"""
+import ctypes
+import sys
+import threading
+
+GAMES = ("solo", "pattern", "lightup", "tents")
+BLACK = {"pattern": 50, "lightup": 20}  # per cent, as the program has it
+NO_MEMORY, TOO_SMALL = 5, 7
+REFUSED = (2, b"refused: words\n")
+FIRST_ROOM = 1 << 16
+
+TEXT, BYTE, WORD = (ctypes.c_char_p, ctypes.c_size_t), ctypes.c_uint8, ctypes.c_uint64
+OUTPUT = (ctypes.c_char_p, ctypes.c_size_t, ctypes.POINTER(ctypes.c_size_t))
+CALLS = {
+    "solve": (BYTE, *TEXT, WORD), "solve_each": (BYTE, *TEXT, WORD), "check": (BYTE, *TEXT, *TEXT),
+    "grade": (BYTE, *TEXT, WORD, ctypes.c_bool), "generate": (BYTE, *TEXT, WORD, WORD, ctypes.c_uint32, BYTE),
+}
+
+
+def is_number(value, kind):
+    return 0 <= value < 1 << 8 * ctypes.sizeof(kind)
+
+
+class Puzzles:
+    """The library. Each call gives the program's status and what it writes; with status 5 or 6, for want of memory, nothing.
+    Texts are bytes. May be used by many threads: each has a room of its own for answers."""
+
+    def __init__(self, file):
+        library = ctypes.CDLL(str(file))
+        self.calls = {name: getattr(library, f"puzzles_{name}") for name in CALLS}
+        for name, call in self.calls.items():
+            call.argtypes, call.restype = (*CALLS[name], *OUTPUT), ctypes.c_uint8
+        self.mine = threading.local()
+
+    def solve(self, game, text, budget=100_000):
+        return self.answer("solve", game, text, len(text), budget)
+
+    def solve_each(self, game, lines, budget=100_000):
+        """The answers to the IDs that are lines of a text."""
+        return self.answer("solve_each", game, lines, len(lines), budget)
+
+    def check(self, game, text, grid):
+        return self.answer("check", game, text, len(text), grid, len(grid))
+
+    def grade(self, game, text, budget=100_000, traced=False):
+        return self.answer("grade", game, text, len(text), budget, traced)
+
+    def generate(self, game, size, seed, budget=100_000, tries=1_000, black=None):
+        if black is not None and game not in BLACK:
+            return REFUSED
+        share = BLACK.get(game, 0) if black is None else black
+        return self.answer("generate", game, size, len(size), seed, budget, tries, share)
+
+    def answer(self, name, game, *words):
+        """What a call says. ctypes would cut a number that doesn't fit, so that is refused. An answer that is longer than
+        the room is asked for again."""
+        numbers = (word for word in zip(words, CALLS[name][1:]) if isinstance(word[0], int))
+        if game not in GAMES or not all(is_number(*word) for word in numbers):
+            return REFUSED
+        written, room = ctypes.c_size_t(), getattr(self.mine, "room", None) or ctypes.create_string_buffer(FIRST_ROOM)
+        while True:
+            self.mine.room = room
+            status = self.calls[name](GAMES.index(game), *words, room, len(room), written)
+            if status != TOO_SMALL:
+                return status, room.raw[:written.value] if status < NO_MEMORY else b""
+            room = ctypes.create_string_buffer(written.value)
+
+
+def grade_lines(library, game, budget):
+    """Grades the IDs that are lines of the input. A call can't be cut off, so puzzles.collect has a process for it."""
+    puzzles = Puzzles(library)
+    for line in sys.stdin.buffer:
+        status, said = puzzles.grade(game, line.rstrip(b"\n"), int(budget))
+        if status > 4:
+            return status
+        sys.stdout.buffer.write(said)
+    return 0
+
+
+if __name__ == "__main__":
+    sys.exit(grade_lines(*sys.argv[1:]))

@@ -1,0 +1,227 @@
+"""Serves a page over the program `puzzles`, on this machine alone: the files of the folder web/, and four calls in JSON.
+
+A call is POST /solve, /check, /grade or /generate. Of a visitor's text only what a call's fields allow reaches the program.
+docs/USE.md tells the calls, and tests/page tries them. Ctrl-C ends it.
+"""
+import argparse
+import collections
+import contextlib
+import hashlib
+import http.server
+import json
+import os
+import re
+import resource
+import shutil
+import signal
+import sys
+import threading
+import time
+import webbrowser
+from pathlib import Path
+
+from .. import _places
+from .calls import NEEDED, Calls, Refused, fields
+from .program import Failed, Process, is_puzzles
+
+CALLS = 8  # at a time
+PATIENCE = 0.5  # seconds that a call waits for its turn
+SHARE = 3  # calls at a time of one visitor, whom a server in front names by X-Forwarded-For
+LIFE = 10.0  # seconds in which a request has to be there
+WAITING = min(256, resource.getrlimit(resource.RLIMIT_NOFILE)[0] // 4)  # connections without a request; of more one is cut
+BODY = 70_000  # bytes
+
+WEB = _places.page("web")
+KINDS = {".html": "text/html; charset=utf-8", ".css": "text/css", ".js": "text/javascript", ".svg": "image/svg+xml",
+         ".png": "image/png", ".webmanifest": "application/manifest+json"}
+FILES = {str(path.relative_to(WEB)): path.read_bytes() for path in WEB.rglob("*") if path.suffix in KINDS}
+TAGS = {name: f'"{hashlib.sha256(body).hexdigest()[:16]}"' for name, body in FILES.items()}
+HEADERS = {
+    "Content-Security-Policy": "default-src 'none'; script-src 'self'; style-src 'self'; img-src 'self'; connect-src 'self'; "
+                               "worker-src 'self'; manifest-src 'self'; base-uri 'none'; form-action 'none'; "
+                               "frame-ancestors 'none'",
+    "X-Content-Type-Options": "nosniff", "Referrer-Policy": "no-referrer",
+}
+
+
+class Page(http.server.BaseHTTPRequestHandler):
+    server_version, sys_version = "puzzles", ""
+    timeout = 5  # seconds of each wait for the visitor
+    wbufsize = -1  # so head and body of a reply go out at once
+
+    def do_GET(self):
+        name = self.path.partition("?")[0].removeprefix("/") or "index.html"
+        if not self.is_ours():
+            return self.send_error(421)
+        if name not in FILES:
+            return self.send_error(404)
+        more = {"ETag": TAGS[name], "Cache-Control": "no-cache"}  # a browser asks whether its copy is still good
+        if self.headers.get("If-None-Match") == TAGS[name]:
+            return self.reply(304, b"", KINDS[Path(name).suffix], more)
+        return self.reply(200, FILES[name], KINDS[Path(name).suffix], more)
+
+    do_HEAD = do_GET
+
+    def do_POST(self):
+        call = self.path.removeprefix("/")
+        try:
+            asked = fields(call, self.body(call))
+            self.server.waiting.pop(self.request, None)
+            visitor = self.headers.get("X-Forwarded-For", "").rpartition(",")[2].strip()
+            with self.server.turns.turn(visitor):
+                status, parts = 200, self.server.calls.answer(call, asked)
+        except Refused as refused:
+            status, parts = refused.args[0], {"refused": refused.args[1]}
+        except Failed as failed:
+            status, parts = 503, {"failed": failed.args[0]}
+        self.reply(status, json.dumps(parts).encode())
+
+    def is_ours(self):
+        """Whether the request names this server, and not a foreign name that was led to its address."""
+        name = re.sub(r":[0-9]*$", "", self.headers.get("Host", ""))
+        return name.lower() in self.server.names
+
+    def body(self, call):
+        sizes = set(self.headers.get_all("Content-Length", [""]))
+        size = sizes.pop() if len(sizes) == 1 else ""
+        if not self.is_ours():
+            raise Refused(421, "host")
+        if call not in NEEDED:
+            raise Refused(404, "path")
+        if self.headers.get_content_type() != "application/json":
+            raise Refused(415, "not JSON")
+        if not re.fullmatch("[0-9]{1,18}", size) or "Transfer-Encoding" in self.headers:
+            raise Refused(411, "length")
+        try:
+            body = self.rfile.read(min(int(size), 4 * BODY))  # some of a body too long, so that its sender reads the reply
+        except TimeoutError:
+            raise Refused(408, "time") from None
+        if int(size) > BODY:
+            raise Refused(413, "too long")
+        return body
+
+    def reply(self, status, body, kind="application/json", more=None):
+        more = more or {"Cache-Control": "no-store", **({"Retry-After": "2"} if status == 503 else {})}
+        self.request_version = "HTTP/1.0"  # a request without a version gets a head all the same
+        self.send_response(status)
+        for name, text in {**HEADERS, **more, "Content-Type": kind, "Content-Length": str(len(body))}.items():
+            self.send_header(name, text)
+        self.end_headers()
+        if self.command != "HEAD":
+            self.wfile.write(body)
+
+    def send_error(self, code, message=None, explain=None):
+        self.reply(code, json.dumps({"refused": http.HTTPStatus(code).phrase}).encode())  # nothing of the request
+
+    def log_message(self, format, *args):
+        pass
+
+
+class Turns:
+    """So many calls at a time, and of a visitor that is named so many."""
+
+    def __init__(self):
+        self.changed, self.running = threading.Condition(), collections.Counter()
+
+    def is_free(self, visitor):
+        return self.running.total() < CALLS and (not visitor or self.running[visitor] < SHARE)
+
+    @contextlib.contextmanager
+    def turn(self, visitor):
+        with self.changed:
+            if not self.changed.wait_for(lambda: self.is_free(visitor), PATIENCE):
+                raise Failed("busy")
+            self.running[visitor] += 1
+        try:
+            yield
+        finally:
+            with self.changed:
+                self.running[visitor] -= 1
+                if not self.running[visitor]:
+                    del self.running[visitor]
+                self.changed.notify_all()
+
+
+class Server(http.server.ThreadingHTTPServer):
+    request_queue_size = 256
+
+    def __init__(self, port, program, names):
+        super().__init__(("127.0.0.1", port), Page)
+        self.calls, self.names = Calls(program), {"127.0.0.1", "localhost", *(name.lower() for name in names)}
+        self.turns, self.waiting = Turns(), {}  # by connection, the oldest first: when it began
+
+    def get_request(self):
+        try:
+            return super().get_request()
+        except OSError:  # no file is left for one more
+            self.cut(0)
+            time.sleep(0.05)
+            raise
+
+    def process_request(self, request, client_address):
+        self.waiting[request] = time.monotonic()
+        if len(self.waiting) > WAITING:
+            self.cut(0)
+        super().process_request(request, client_address)
+
+    def shutdown_request(self, request):
+        self.waiting.pop(request, None)
+        super().shutdown_request(request)
+
+    def service_actions(self):  # after each request, and each half second
+        while self.cut(LIFE):
+            pass
+
+    def cut(self, life):
+        """Ends the oldest connection that waits for its request for so many seconds."""
+        request, begun = next(iter(list(self.waiting.items())), (None, 0))
+        if request is None or time.monotonic() - begun < life:
+            return False
+        self.waiting.pop(request, None)
+        with contextlib.suppress(OSError):  # if it has ended
+            request.shutdown(2)  # in both directions
+        return True
+
+    def handle_error(self, request, client_address):
+        if not isinstance(sys.exc_info()[1], OSError):  # that the visitor has gone is no fault
+            super().handle_error(request, client_address)
+
+
+def main():
+    parser = argparse.ArgumentParser(description=__doc__, formatter_class=argparse.RawDescriptionHelpFormatter)
+    parser.add_argument("program", nargs="?", default="puzzles", metavar="PROGRAM", help="`puzzles` on the path, if not said")
+    parser.add_argument("--port", type=int, default=8017, help="0 for one that is free (default 8017)")
+    parser.add_argument("--open", action="store_true", help="show the page in a browser")
+    parser.add_argument("--host", action="append", default=[], metavar="NAME",
+                        help="a name under which a server in front hands requests on, beside 127.0.0.1 and localhost")
+    words = parser.parse_args()
+    program = shutil.which(words.program)
+    if not program:
+        sys.exit(f"{words.program}: no program")
+    signal.signal(signal.SIGTERM, signal.default_int_handler)
+    try:
+        serve(os.path.abspath(program), words)
+    except KeyboardInterrupt:
+        pass
+    finally:
+        Process.stop_all()
+
+
+def serve(program, words):
+    if not is_puzzles(program):
+        sys.exit(f"{words.program}: it doesn't answer as `puzzles` does")
+    try:
+        server = Server(words.port, program, words.host)
+    except (OSError, OverflowError) as fault:
+        sys.exit(f"port {words.port}: {fault}")
+    print(f"http://127.0.0.1:{server.server_port}/", flush=True)
+    if words.open:
+        webbrowser.open(f"http://127.0.0.1:{server.server_port}/")
+    server.serve_forever()
+
+
+run = main
+
+
+if __name__ == "__main__":
+    run()

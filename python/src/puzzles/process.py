@@ -1,0 +1,62 @@
+"""Where the program is, and one run of it."""
+import os
+import shutil
+import subprocess
+import sysconfig
+from typing import List, Optional, Sequence, Union
+
+GAMES = ("solo", "pattern", "lightup", "tents")
+MOST_BYTES = 65_536  # of an ID
+STATUSES = range(5)  # with an answer
+
+
+class NoAnswer(Exception):
+    """The program ended without an answer: by a signal, for want of memory, or with another fault."""
+
+
+class Late(NoAnswer):
+    """The clock ended the program."""
+
+
+def program() -> str:
+    """The path of the program. Raises FileNotFoundError."""
+    beside = os.path.join(sysconfig.get_path("scripts"), "puzzles")
+    is_beside = os.access(beside, os.X_OK) and not os.path.isdir(beside)
+    found = shutil.which(os.environ.get("PUZZLES") or (beside if is_beside else "puzzles"))
+    if not found:
+        raise FileNotFoundError("no program `puzzles` beside this Python, on the path, or where PUZZLES says")
+    return found
+
+
+def known(game: str) -> str:
+    """The game's name. Raises ValueError if there is no such game."""
+    if game not in GAMES:
+        raise ValueError(f"{game!r} is none of {', '.join(GAMES)}")
+    return str(game)
+
+
+def option(name: str, value: Optional[int]) -> List[str]:
+    """The words of an option, if it has a value."""
+    return [] if value is None else [f"--{name}={int(value)}"]
+
+
+def word_of(text: str) -> bytes:
+    """A text as a word of the command line. What a form hands over around an ID is taken off."""
+    return text.strip("\ufeff \t\r\n").encode("utf-8", "replace")
+
+
+def is_word(word: bytes) -> bool:
+    """Whether the system can pass it."""
+    return len(word) <= MOST_BYTES and b"\0" not in word
+
+
+def run(words: Sequence[Union[str, bytes]], given: str, seconds: Optional[float]) -> List[str]:
+    """The lines of one run. Raises `Late` and `NoAnswer`."""
+    try:
+        done = subprocess.run([program(), *words], input=given, capture_output=True, encoding="utf-8",
+                              errors="replace", timeout=seconds, check=False)
+    except subprocess.TimeoutExpired:
+        raise Late(f"no answer within {seconds:g} seconds") from None
+    if done.returncode not in STATUSES or not done.stdout:
+        raise NoAnswer(f"status {done.returncode}")
+    return done.stdout.splitlines()

@@ -1,0 +1,1 @@
+"""The page: its server, and both forms of it in browsers."""
