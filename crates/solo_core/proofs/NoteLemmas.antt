@@ -1,5 +1,5 @@
 -- What is noted of a board, when a cell is closed, when one is opened, and at the start.
-use Rattle.solo_core.proofs.Common.{Bool, Candidates, IsSingleSet, IsSolo, List, Solo, ap, arith, cases_Bool, cases_lt, eq-eqb, eqb, eqb-true, false, filled_houses, get_or-replicate, has_bit, houses_of, houses_rules, inl, inr, length, ne_eqb, refl, replicate, slice_index, solo_cells, solo_n, sym, true, true≢false, ℕ, ◌*◌, ◌<◌, ◌^◌, ◌∙◌, ◌≡◌, ◌≤◌}
+use Rattle.solo_core.proofs.Common.{Candidates, IsSingleSet, IsSolo, List, Solo, ap, arith, cases_Bool, cases_lt, eq-eqb, eqb, eqb-true, filled_houses, get_or-replicate, has_bit, houses_of, houses_rules, inl, inr, length, ne_eqb, refl, replicate, slice_index, solo_cells, solo_n, sym, true, true≢false, ℕ, ◌*◌, ◌<◌, ◌^◌, ◌∙◌, ◌≡◌, ◌≤◌}
 use Rattle.std.proofs.lemmas.Nat.Bits.{bit_at_above}
 use Rattle.std.specs.Prelude.{slice_index_or}
 use Rattle.std.proofs.lemmas.List.{get_or_default, length-replicate}
@@ -8,7 +8,7 @@ use Rattle.grid_core.specs.Candidates.{count_below}
 use Rattle.grid_core.proofs.BoardLemmas.{count_below-few, count_below-one, count_below-pos, has-within, least_below-passes}
 use Rattle.engine_core.specs.Notes.{HasOnly, SameBut}
 use Rattle.engine_core.specs.RuleSystem.{Needs}
-use Rattle.solo_core.specs.OpenBoards.{AreAllSpotsOf, AreNotesOf, AreOpenIn, AreOpenSpots, AreSpotsAt, AreSpotsIn, AreSpotsOf, HasRoomFor, IsSizeOf, SpotList, StayOpenWith, no_open_house, open_at, spots_each}
+use Rattle.solo_core.specs.OpenBoards.{AreNotesOf, AreOpenSpots, AreSpotsAt, AreSpotsIn, HasRoomFor, IsSizeOf, SpotList, StayOpenWith, no_open_house, spots_each}
 use Rattle.solo_core.specs.OpenHouses.{IsOpenOf}
 use Rattle.solo_core.specs.declared.visits.open.OpenHouse.{OpenHouse}
 use Rattle.solo_core.specs.declared.visits.spots.Spot.{Spot}

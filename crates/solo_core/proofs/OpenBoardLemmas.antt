@@ -1,31 +1,13 @@
 -- What stays open in a board that loses values, and in one that gets them back.
-use Rattle.solo_core.proofs.Common.{Bool, Candidates, List, ap, get_or-set_at, get_or-set_other, slice_set, arith, cases_eq, eq-eqb, eqb, eqb-true, false, false_from_ne_true, has_bit, inl, inr, length, refl, slice_index, sym, true, true_from_ne_false, true≢false, ℕ, ◌+◌, ◌<◌, ◌∙◌, ◌≡◌}
-use Rattle.solo_core.specs.Common.{IsInside, RuleSystem}
+use Rattle.solo_core.proofs.Common.{Candidates, List, ap, get_or-set_at, get_or-set_other, slice_set, arith, cases_eq, eqb, has_bit, inl, inr, length, refl, slice_index, sym, true, true_from_ne_false, true≢false, ℕ, ◌+◌, ◌<◌, ◌∙◌, ◌≡◌}
+use Rattle.solo_core.specs.Common.{RuleSystem}
 use Rattle.solo_core.specs.OpenHouses.{StaysOpenWith}
-use Rattle.solo_core.specs.OpenBoards.{AreAllSpotsOf, AreOpenIn, AreOpenSpots, IsOpenCell, StandsAt, StayOpenWith, house_has, no_open_house, open_at, spot_at}
+use Rattle.solo_core.specs.OpenBoards.{AreAllSpotsOf, AreOpenIn, AreOpenSpots, IsOpenCell, StayOpenWith, house_has, no_open_house, open_at, spot_at}
 use Rattle.solo_core.specs.declared.visits.open.OpenHouse.{OpenHouse}
 use Rattle.solo_core.specs.declared.visits.spots.Spot.{Spot}
 use Rattle.solo_core.specs.OpenLaws.{open-other}
 
 module _ (p : RuleSystem) (K L : Candidates) (houses : List OpenHouse) (o : AreOpenIn p K houses) where
-  -- values are struck, and each closed cell has some left: it keeps its one value
-  pub open-inside : IsInside L K
-      → ((h k : ℕ) → h < p.houses → k < p.values → has_bit (open_at houses h).cells k ≡ false
-      → (v : ℕ) × (L (slice_index (p.scope h) k) v ≡ true))
-      → AreOpenIn p L houses
-  open-inside inside some h lh = open-other (o h lh) (λ k v lk off.
-      let c = (o h lh).closed k lk off in
-      let w = some h k lh lk off in
-      let place = slice_index (p.scope h) k in
-      let is = eqb-true w.0 c.value (sym (c.alone w.0) ∙ inside place w.0 w.1) in
-      elim (cases_eq v c.value) [
-        | inl e ↦ ap (L place) (e ∙ sym is) ∙ w.1 ∙ sym (c.alone v ∙ eq-eqb v c.value e)
-        | inr ne ↦ elim (cases_eq v w.0) [
-          | inl e ↦ absurd (ne (e ∙ is))
-          | inr other ↦ false_from_ne_true (L place v) (λ on. ne (eqb-true v c.value (sym (c.alone v) ∙ inside place v on))) ∙ sym (false_from_ne_true (K place v) (λ on. ne (eqb-true v c.value (sym (c.alone v) ∙ on))))
-        ]
-      ])
-
   -- the board changes in one cell, which is open
   pub open-changed : (place : ℕ) → IsOpenCell p houses place → ((c v : ℕ) → (c ≡ place → ⊥) → L c v ≡ K c v) → AreOpenIn p L houses
   open-changed place is_open same h lh = open-other (o h lh) (λ k v lk off.

@@ -1,8 +1,8 @@
 -- Cells that leave their houses with their values, and come back; and what a visit of the open cells alone strikes.
-use Rattle.solo_core.proofs.Common.{AreDifferent, and_from, and_le_r, and_parts, bit_or, AreSettledBut, Bool, IsOutside, IsPassedCell, ltb, IsSingleSet, List, ap, arith, bit_and, both-bits, [], cases_Bool, cases_eq, cases_lt, get_or_append_left, get_or_push, length-append, either-bits, eq-eqb, eqb, eqb-true, false, false_from_ne_true, has_bit, has_in, inl, inr, length, nat_tests, ne_eqb, not, or_cases, refl, slice_index, sym, true, true_from_ne_false, true≢false, zero-bits, ℕ, ◌&&◌, ◌++◌, ◌+◌, ◌∷◌, ◌<◌, ◌^◌, ◌||◌, ◌∙◌, ◌≡◌, ◌≤◌}
+use Rattle.solo_core.proofs.Common.{AreDifferent, and_from, and_le_r, and_parts, bit_or, AreSettledBut, Bool, IsOutside, IsPassedCell, ltb, IsSingleSet, List, ap, arith, bit_and, both-bits, [], cases_eq, cases_lt, get_or_append_left, get_or_push, length-append, either-bits, eq-eqb, eqb, eqb-true, false, false_from_ne_true, has_bit, has_in, inl, inr, length, nat_tests, ne_eqb, not, or_cases, refl, slice_index, sym, true, true≢false, zero-bits, ℕ, ◌&&◌, ◌++◌, ◌+◌, ◌∷◌, ◌<◌, ◌^◌, ◌||◌, ◌∙◌, ◌≡◌, ◌≤◌}
 use Rattle.std.specs.Prelude.{IfNone, IfSome, None, Option, Some}
 use Rattle.solo_core.proofs.BitLemmas.{none_in_zero, some_set}
-use Rattle.solo_core.specs.OpenHouses.{HasAlone, IsClosedCell, IsOpenOf, ListsBits, ListsBitsBelow}
+use Rattle.solo_core.specs.OpenHouses.{HasAlone, IsOpenOf, ListsBits, ListsBitsBelow}
 use Rattle.solo_core.specs.OpenLaws.{open-other}
 use Rattle.solo_core.specs.Bits.{NoneIsSet}
 use Rattle.solo_core.specs.Common.{IsBitsOf}

@@ -1,6 +1,6 @@
 -- What a visit of the open cells tells of the rules' house.
 use Rattle.std.specs.Prelude.{IfNone, IfSome, None, Option, Some}
-use Rattle.solo_core.proofs.Common.{Candidates, IsSolo, List, Solo, arith, cases_Bool, false, fillings_sound, filled_houses, get_or-replicate, has_bit, houses_lawful, houses_rules, inl, inr, length, pow_pos, refl, replicate, slice_index, solo_n, some_numbers, sym, take, ◌≤◌, true, true≢false, zero-bits, ℕ, ◌<◌, ◌^◌, ◌∙◌, ◌≡◌, nat_tests, common_steps, not, ap, ◌&&◌}
+use Rattle.solo_core.proofs.Common.{Candidates, IsSolo, List, Solo, arith, cases_Bool, fillings_sound, filled_houses, get_or-replicate, has_bit, houses_lawful, houses_rules, inl, inr, length, pow_pos, refl, replicate, slice_index, solo_n, some_numbers, take, ◌≤◌, true, true≢false, zero-bits, ℕ, ◌<◌, ◌≡◌, ap}
 unfoldable use Rattle.engine_core.specs.RuleSystem.{after}
 use Rattle.engine_core.specs.ClosingList.{IsDeadAfter}
 use Rattle.engine_core.specs.Keeping.{IsKept}

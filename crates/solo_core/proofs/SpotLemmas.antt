@@ -1,10 +1,9 @@
 -- Where the cells of a puzzle stand in its houses.
-use Rattle.solo_core.proofs.Common.{Block, Bool, Column, Diagonal, IsSolo, List, NamedHouse, Row, Solo, all_houses, ap, arith, cases_Bool, cases_lt, count_plain, count_x, div-add-mod', eq-eqb, eqb, eqb-true, false, get_or, house_count, houses_lawful, houses_of, inl, inr, length, lies_in_house, lists_house, mod_below, mul-add-lt, ne_eqb, places_of, refl, row-at, column-at, slice_index, solo_cells, solo_n, some_numbers, sym, true, true≢false, ℕ, ◌%◌, ◌&&◌, ◌*◌, ◌+◌, ◌-◌, ◌/◌, ◌<◌, ◌∙◌, ◌≡◌, ◌≤◌, if◌then◌else◌, and_parts, and_from, houses_rules}
+use Rattle.solo_core.proofs.Common.{Block, Column, Diagonal, IsSolo, List, NamedHouse, Row, Solo, all_houses, ap, arith, cases_Bool, cases_lt, count_plain, count_x, div-add-mod', eq-eqb, eqb, eqb-true, false, get_or, house_count, houses_lawful, houses_of, inl, inr, length, lies_in_house, lists_house, mod_below, mul-add-lt, ne_eqb, places_of, refl, row-at, column-at, slice_index, solo_cells, solo_n, some_numbers, sym, true, ℕ, ◌%◌, ◌&&◌, ◌*◌, ◌+◌, ◌-◌, ◌/◌, ◌<◌, ◌∙◌, ◌≡◌, ◌≤◌, and_parts, houses_rules}
 use Rattle.std.proofs.lemmas.Nat.{div_below}
-use Rattle.grid_core.specs.Regions.{diagonal_places}
 use Rattle.solo_core.specs.Houses.{square}
 use Rattle.solo_core.specs.HouseLaws.{block-holds}
-use Rattle.solo_core.specs.OpenBoards.{AreAllSpotsOf, AreSpotsAt, AreSpotsOf, StandsAt, spot_at, spot_of, spots_each}
+use Rattle.solo_core.specs.OpenBoards.{AreAllSpotsOf, AreSpotsAt, AreSpotsOf, StandsAt, spot_of, spots_each}
 use Rattle.solo_core.proofs.HouseLemmas.{block-name, column-name, deciding-at, diagonal-name, filled-length, long-at, row-name}
 use Rattle.grid_core.proofs.RegionLemmas.{line_at}
 use Rattle.solo_core.specs.declared.visits.spots.Spot.{Spot}

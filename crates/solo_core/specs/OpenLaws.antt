@@ -1,5 +1,5 @@
 -- Laws of open houses and of what is noted of them.
-use Rattle.std.proofs.Common.{◌≡◌, ◌∙◌, ◌<◌, ℕ, Bool, List, arith, false, length, sym}
+use Rattle.std.proofs.Common.{◌≡◌, ◌∙◌, ◌<◌, ℕ, Bool, List, arith, false, sym}
 use Rattle.engine_core.specs.Notes.{KeepsOnly}
 use Rattle.engine_core.specs.RuleSystem.{FitsIn, Needs}
 use Rattle.solo_core.specs.Common.{Candidates, Solo, has_bit}

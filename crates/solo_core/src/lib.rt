@@ -15,5 +15,5 @@ pub use fault::SoloFault;
 pub use houses::house::NamedHouse;
 pub use houses::numbers::visit_name;
 pub use houses::visit::VisitName;
-pub use notes::OpenNotes;
+pub use notes::{CrossingNotes, OpenNotes};
 pub use rule_sets::{Crossings, Singles, SoloCrossings, SoloFillings, SoloHouses, SoloSingles};

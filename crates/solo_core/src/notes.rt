@@ -2,15 +2,16 @@
 #![tactic(auto, using(crate::proofs::LawSets::notes_laws))]
 
 ghost use Rattle.std.specs.Prelude.{length, vec_len};
+ghost use Rattle.std.proofs.Common.{le_trans};
 ghost use Rattle.solo_core.specs.OpenBoards.{AreNotesOf, HasRoomFor};
 ghost use Rattle.solo_core.specs.OpenLaws.{noted-kept, room-smaller};
 
-use crate::rule_sets::{Crossings, Singles, SoloFillings};
+use crate::rule_sets::{Crossings, SoloFillings};
 use crate::visits::gather::visit_open;
 use crate::visits::notes::{close_at, note_board, open_at};
 use crate::visits::open::OpenHouse;
 use crate::visits::spots::SpotTable;
-use engine_core::{HouseRules, Noted, Notes, PlainNotes, Rules};
+use engine_core::{HouseRules, Notes, PlainNotes, Rules};
 use grid_core::{Board, Fixed, Pairing};
 use std::alloc::{AllocError, Global};
 
@@ -22,18 +23,6 @@ pub struct OpenNotes {
     spots: SpotTable,
     kept: Fixed<u32>,
     rest: Fixed<u8>,
-}
-
-impl Noted for Singles {
-    type Notes = PlainNotes;
-}
-
-impl Noted for SoloFillings {
-    type Notes = OpenNotes;
-}
-
-impl Noted for Crossings {
-    type Notes = PlainNotes;
 }
 
 impl Notes<SoloFillings> for OpenNotes {
@@ -116,4 +105,59 @@ impl Notes<SoloFillings> for OpenNotes {
     ghost stays_noted = { λ puzzle notes K L keeps noted. noted-kept puzzle keeps noted };
 
     ghost made_for_smaller = { λ notes need had fits made. room-smaller fits made };
+}
+
+/// No notes, for rules with crossings.
+#[derive(Drop)]
+pub struct CrossingNotes {
+    plain: PlainNotes,
+}
+
+impl Notes<Crossings> for CrossingNotes {
+    ghost noted = { λ _ _ _. Unit {0} };
+
+    ghost made_for = { λ notes needs. ⟦<PlainNotes as Notes<Crossings>>⟧.made_for notes.plain
+        needs };
+
+    ghost numbers = { λ notes. ⟦<PlainNotes as Notes<Crossings>>⟧.numbers notes.plain };
+
+    ghost kept_at = { λ notes house. ⟦<PlainNotes as Notes<Crossings>>⟧.kept_at notes.plain
+        house };
+
+    fn new(alloc: Global, rules: &HouseRules<Crossings>) -> Result<CrossingNotes, AllocError> {
+        Ok(CrossingNotes {
+            plain: <PlainNotes as Notes<Crossings>>::new(alloc, rules)?,
+        })
+    }
+
+    fn begin(&mut self, _rules: &HouseRules<Crossings>, _board: &Board) {}
+
+    fn visit(
+        &mut self,
+        rules: &HouseRules<Crossings>,
+        house: usize,
+        board: &Board,
+        work: &mut Pairing,
+    ) -> Option<usize> {
+        self.plain.visit(rules, house, board, work)
+    }
+
+    fn number(&self, i: usize) -> usize {
+        <PlainNotes as Notes<Crossings>>::number(&self.plain, i)
+    }
+
+    fn kept(&self, rules: &HouseRules<Crossings>, house: usize) -> &[u32] {
+        self.plain.kept(rules, house)
+    }
+
+    fn single(&mut self, _rules: &HouseRules<Crossings>, _place: usize, _board: &Board) {}
+
+    fn back(&mut self, _rules: &HouseRules<Crossings>, _place: usize, _board: &Board) {}
+
+    ghost stays_noted = { λ _ _ _ _ _ noted. noted };
+
+    ghost made_for_smaller = { λ _ need had fits made. (
+      le_trans fits.scope_in made.0,
+      le_trans fits.scope_in made.1,
+    ) };
 }

@@ -1,5 +1,5 @@
 use Rattle.std.proofs.lemmas.List.{take_more_set}
-use Rattle.solo_core.proofs.Common.{arith, length, length-set, refl, set, ◌<◌, ◌∙◌}
+use Rattle.solo_core.proofs.Common.{arith, length, length-set, refl, ◌<◌, ◌∙◌}
 use Rattle.solo_core.proofs.OpenLemmas.{listed-all, listed-next, listed-none}
 use Rattle.solo_core.proofs.visits.gather.list_bits.Goals as goal
 

@@ -1,4 +1,4 @@
-use Rattle.solo_core.proofs.Common.{and-false, arith, eqb, refl, false, mod_below, mul-le, ne_eqb, ◌&&◌, ◌%◌, ◌*◌, ◌+◌, ◌/◌, ◌<◌, ◌∙◌, ◌≡◌}
+use Rattle.solo_core.proofs.Common.{and-false, arith, refl, mod_below, mul-le, ne_eqb, ◌%◌, ◌*◌, ◌+◌, ◌/◌, ◌<◌, ◌∙◌}
 use Rattle.std.proofs.lemmas.Nat.{div_below}
 use Rattle.solo_core.proofs.SpotLemmas.{block-low, spot-0, spot-1, spot-2, spot-3, spot-4}
 use Rattle.solo_core.proofs.visits.spots.find_spot.Goals as goal
