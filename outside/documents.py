@@ -27,7 +27,7 @@ import fifth_game
 TOP = pathlib.Path(__file__).resolve().parent.parent
 COLUMNS, WORDS = 130, 25
 HELP_SECONDS = 60
-PLACE = re.compile(r"(?:docs|bench|outside|examples|completions|page|crates|\.ci)/[\w./-]*\w")
+PLACE = re.compile(r"(?:docs|bench|outside|examples|completions|page|library|crates|\.ci)/[\w./-]*\w")
 NUMBER = re.compile(r"\d[\d,]*")
 NAME = re.compile(r"[A-Za-z_][\w-]*\w")
 
@@ -190,7 +190,7 @@ def stale(path):
 def scripts():
     """What is wrong with the scripts that a document names."""
     text = "".join(path.read_text() for path in documents())
-    named = re.findall(r"(?:bench|outside|examples|page)/[\w/]+\.(?:py|sh)", text)
+    named = re.findall(r"(?:bench|outside|examples|library|page)/[\w/]+\.(?:py|sh)", text)
     names = [name for name in named if (TOP / name).exists()]
     names += [f"bench/{name}" for name in re.findall(r"^\| `(\w+\.py)", (TOP / "bench" / "README.md").read_text(), re.M)]
     for name in sorted(set(names)):
