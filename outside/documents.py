@@ -70,7 +70,7 @@ def links(path):
                 yield f"{path.relative_to(TOP)}:{number}: no such heading: {target}"
         for span in re.findall(r"`([^`]+)`", line):
             word = span.split(" ")[0]
-            if PLACE.fullmatch(word) and not re.search(r"NAME|/out/", word) and not [*TOP.glob(word), *TOP.glob(f"{word}.*")]:
+            if PLACE.fullmatch(word) and not re.search(r"NAME|/out(?:/|$)", word) and not [*TOP.glob(word), *TOP.glob(f"{word}.*")]:
                 yield f"{path.relative_to(TOP)}:{number}: no such place: {word}"
 
 

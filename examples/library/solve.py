@@ -10,19 +10,20 @@ import argparse
 import ctypes
 import pathlib
 import sys
+import threading
 
 GAMES = ("solo", "pattern", "lightup", "tents")
 BLACK = {"pattern": 50, "lightup": 20}  # per cent, as the program has it
 NO_MEMORY, TOO_SMALL = 5, 7
 REFUSED = (2, b"refused: words\n")
-FIRST_ROOM = 1 << 16
+FIRST_ROOM = 80_057  # the most bytes of an answer, but for many lines and for a trace
 MADE = pathlib.Path(__file__).resolve().parents[2] / "library" / "out" / "libpuzzles.so"
 
 TEXT, BYTE, WORD = (ctypes.c_char_p, ctypes.c_size_t), ctypes.c_uint8, ctypes.c_uint64
 OUTPUT = (ctypes.c_char_p, ctypes.c_size_t, ctypes.POINTER(ctypes.c_size_t))
 CALLS = {
     "solve": (BYTE, *TEXT, WORD), "solve_each": (BYTE, *TEXT, WORD), "check": (BYTE, *TEXT, *TEXT),
-    "grade": (BYTE, *TEXT, WORD, ctypes.c_bool), "generate": (BYTE, *TEXT, WORD, WORD, ctypes.c_uint32, BYTE),
+    "grade": (BYTE, *TEXT, WORD, BYTE), "generate": (BYTE, *TEXT, WORD, WORD, ctypes.c_uint32, BYTE),
 }
 
 
@@ -31,15 +32,15 @@ def is_number(value, kind):
 
 
 class Puzzles:
-    """The library. Each call gives the program's status and what it writes; with status 5 or 6, for want of memory, nothing.
-    Texts are bytes. One of these is for one thread, since it keeps the room for answers."""
+    """The library. Each call gives the program's status and what it writes; with status 5, for want of memory, nothing.
+    Texts are bytes. Many threads may call one of these: each has its own room for answers."""
 
     def __init__(self, file=MADE):
         library = ctypes.CDLL(str(file))
         self.calls = {name: getattr(library, f"puzzles_{name}") for name in CALLS}
         for name, call in self.calls.items():
             call.argtypes, call.restype = (*CALLS[name], *OUTPUT), ctypes.c_uint8
-        self.written, self.room = ctypes.c_size_t(), ctypes.create_string_buffer(FIRST_ROOM)
+        self.rooms = threading.local()
 
     def solve(self, game, text, budget=100_000):
         return self.answer("solve", game, text, len(text), budget)
@@ -52,7 +53,7 @@ class Puzzles:
         return self.answer("check", game, text, len(text), grid, len(grid))
 
     def grade(self, game, text, budget=100_000, traced=False):
-        return self.answer("grade", game, text, len(text), budget, traced)
+        return self.answer("grade", game, text, len(text), budget, bool(traced))
 
     def generate(self, game, size, seed, budget=100_000, tries=1_000, black=None):
         if black is not None and game not in BLACK:
@@ -66,12 +67,14 @@ class Puzzles:
         numbers = (word for word in zip(words, CALLS[name][1:]) if isinstance(word[0], int))
         if game not in GAMES or not all(is_number(*word) for word in numbers):
             return REFUSED
+        room, written = getattr(self.rooms, "room", None), ctypes.c_size_t()
+        if room is None:
+            room = self.rooms.room = ctypes.create_string_buffer(FIRST_ROOM)
         while True:
-            output = (self.room, len(self.room), self.written)
-            status = self.calls[name](GAMES.index(game), *words, *output)
+            status = self.calls[name](GAMES.index(game), *words, room, len(room), written)
             if status != TOO_SMALL:
-                return status, self.room.raw[:self.written.value] if status < NO_MEMORY else b""
-            self.room = ctypes.create_string_buffer(self.written.value)
+                return status, ctypes.string_at(room, written.value) if status < NO_MEMORY else b""
+            room = ctypes.create_string_buffer(written.value)
 
 
 def main():
