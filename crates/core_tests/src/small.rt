@@ -82,7 +82,7 @@ fn trials(alloc: Global, game: Game, id: &str) -> Result<Option<Walked>, Fail> {
 }
 
 /// Puzzles of 16 cells at most, and the verdict on each.
-static PUZZLES: [(Game, &str, Verdict); 37] = [
+static PUZZLES: [(Game, &str, Verdict); 41] = [
     (Game::Solo, "2x2:1_1n", Verdict::None),
     (Game::Solo, "2x2:d3_4j", Verdict::Several),
     (Game::Solo, "2x2:1c2c3c4c", Verdict::Several),
@@ -106,6 +106,7 @@ static PUZZLES: [(Game, &str, Verdict); 37] = [
     (Game::Pattern, "4x4:2/2/2/2/2/2/2/2", Verdict::Several),
     (Game::Pattern, "4x4:1.1/1/2/1.1/1/2/1.1/1.1", Verdict::One),
     (Game::Pattern, "4x3:1/1.1/1/1/1/1/1.1", Verdict::None),
+    (Game::Pattern, "1x4:1.2/1//1/1", Verdict::One),
     (Game::LightUp, "2x2:d", Verdict::Several),
     (Game::LightUp, "2x2:Bc", Verdict::Several),
     (Game::LightUp, "2x2:1c", Verdict::None),
@@ -124,6 +125,9 @@ static PUZZLES: [(Game, &str, Verdict); 37] = [
     (Game::Tents, "4x3:dbd,1,0,0,1,1,0,1", Verdict::Several),
     (Game::Tents, "4x4:p,0,0,0,0,0,0,0,0", Verdict::One),
     (Game::Tents, "4x4:abcdb,1,1,1,1,1,1,1,1", Verdict::None),
+    (Game::Tents, "4x2:_bd,0,1,1,0,2,0", Verdict::None),
+    (Game::Tents, "4x4:abbh,1,0,1,1,2,0,1,0", Verdict::One),
+    (Game::Tents, "4x4:_i_d,0,1,1,1,1,1,0,1", Verdict::One),
 ];
 
 #[test]
