@@ -25,7 +25,7 @@ APT_SECONDS = 600
 CORES = os.cpu_count() or 1
 SHOWN = 4000  # letters of what a failed part wrote
 COMMIT = "commit that git can read"
-SCRIPTS = {  # words behind python/run, and what it needs: programs, modules, or files that were built
+SCRIPTS = {  # words behind python/run, and what it needs: programs, or files that were built
     "promises": (["tests/tree/promises.py"], []),
     "documents": (["tests/tree/documents.py"], []),
     "types": (["tests/tree/search_types.py"], ["rt", COMMIT]),
@@ -66,7 +66,8 @@ def lacking():
         if line and not line.startswith("#"):
             package, probe = line.split()[:2]
             if probe != "-":
-                is_lacking = not (is_program(probe) or debian and probe.isidentifier() and has_module(probe, debian))
+                module = probe.removeprefix("import:")
+                is_lacking = not (is_program(probe) if module == probe else debian and has_module(module, debian))
             if is_lacking:
                 yield package
 
@@ -104,8 +105,7 @@ class Gate:
         if probe == COMMIT:
             words = ["git", "-C", str(TOP), "rev-parse", "--verify", "HEAD"]
             return bool(shutil.which("git")) and not subprocess.run(words, capture_output=True, check=False).returncode
-        return bool(is_program(probe) or (self.built / probe).is_file()
-                    or probe.isidentifier() and has_module(probe, self.python))
+        return is_program(probe) or (self.built / probe).is_file()
 
     def missing(self, name, probes):
         """Whether something is missing that a part needs, which is then skipped."""

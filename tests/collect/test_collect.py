@@ -285,7 +285,7 @@ def graded_by(bench, words, grades, count):
 
 
 @pytest.mark.slow
-@pytest.mark.needs("distributed")
+@pytest.mark.needs("import:distributed")
 def test_on_many_machines(bench, count=2000):
     """the Dask job grades what is open, and its answers are taken in: the table is that of a run on one machine"""
     if not dask.has_dask(DEBIAN):

@@ -19,7 +19,7 @@ from support.bench import DEBIAN, TOP, Bench
 from support.trial import wait_until
 from puzzles._work import end
 
-pytestmark = [pytest.mark.needs("git", "dpkg", "dpkg-deb"), pytest.mark.xdist_group("packages")]
+pytestmark = [pytest.mark.needs("git", "a commit", "dpkg", "dpkg-deb"), pytest.mark.xdist_group("packages")]
 PORT = 8031
 ANSWERS = """\
 import puzzles, puzzles.ids
@@ -182,6 +182,7 @@ def test_tarball(packages):
     assert not [name for name in names if "__pycache__" in name], "what Python left behind is packed"
 
 
+@pytest.mark.needs("import:ensurepip")
 def test_wheel(packages):
     """pip installs the wheel: the program is on the path of its environment, and `import puzzles` finds it there"""
     folder = packages.folder / "environment"

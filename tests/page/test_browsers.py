@@ -4,7 +4,7 @@ import pytest
 from page import alone, browser, firefox, pictures
 
 pytestmark = pytest.mark.slow
-CHROMIUM = pytest.mark.needs("chromium", "chromedriver", "selenium")
+CHROMIUM = pytest.mark.needs("chromium", "chromedriver", "import:selenium")
 
 
 @CHROMIUM
