@@ -9,11 +9,11 @@ import signal
 import sqlite3
 import subprocess
 import sys
-import threading
 import time
 
+from ._process import END_SECONDS, Processes, Stopped
+
 REFUSED, DISK, FAILED, STOPPED = 2, 6, 7, 130
-END_SECONDS = 120  # for the end of a process that was killed
 EXAMPLE = ("solve", "pattern", "--", "5x1:1/1//1/1/2.2"), ["one", "##.##"]
 
 
@@ -35,7 +35,7 @@ class Program:
     def __init__(self, name, seconds=300):
         beside = os.path.dirname(sys.argv[0])  # where a package puts both
         self.path, self.seconds = shutil.which(name) or shutil.which(name, path=beside), seconds
-        self.running, self.lock, self.is_stopped = set(), threading.Lock(), False
+        self.processes = Processes()
         if not self.path:
             raise Fault(f"no program {name} that can be run: say where `puzzles` is by --program")
         if self.ask(*EXAMPLE[0]) != EXAMPLE[1]:
@@ -43,20 +43,15 @@ class Program:
 
     def run(self, words, given="", seconds=None):
         """The lines of a process, and its status."""
-        with self.lock:
-            if self.is_stopped:
-                raise Fault("stopped", STOPPED)
-            child = subprocess.Popen(words, stdin=subprocess.PIPE, stdout=subprocess.PIPE, stderr=subprocess.DEVNULL,
-                                     encoding="utf-8", errors="replace", start_new_session=True)
-            self.running.add(child)
+        end = time.monotonic() + (seconds or self.seconds)
         try:
-            output, _ = child.communicate(given, timeout=seconds or self.seconds)
-        except subprocess.TimeoutExpired:
-            raise Late(f"no answer within {seconds or self.seconds:g} seconds: {' '.join(words[:3])}") from None
-        finally:
-            end(child)
-            self.running.discard(child)
-        return output.splitlines(), child.returncode
+            with self.processes.one(words, is_quiet=True) as process:
+                output, status = process.answer(given.encode("utf-8", "replace"), lambda: end)
+        except Stopped:
+            raise Fault("stopped", STOPPED) from None
+        except TimeoutError:
+            raise Late(f"no answer within {seconds or self.seconds:g} seconds: {' '.join(map(str, words[:3]))}") from None
+        return output.decode("utf-8", "replace").splitlines(), status
 
     def ask(self, *words, given=""):
         """The lines that the program answers."""
@@ -66,10 +61,7 @@ class Program:
         return lines
 
     def stop(self):
-        with self.lock:
-            self.is_stopped = True
-            for child in [*self.running]:
-                end(child)
+        self.processes.stop()
 
 
 def end(child):
