@@ -25,10 +25,11 @@ APT_SECONDS = 600
 CORES = os.cpu_count() or 1
 SHOWN = 4000  # letters of what a failed part wrote
 COMMIT = "commit that git can read"
-SCRIPTS = {  # words behind python/run, and what it needs: programs, or files that were built
+SCRIPTS = {  # words behind python/run, or of Python itself, and what it needs: programs, or files that were built
     "promises": (["tests/tree/promises.py"], []),
     "documents": (["tests/tree/documents.py"], []),
     "types": (["tests/tree/search_types.py"], ["rt", COMMIT]),
+    "mypy": (["-m", "mypy", "--config-file", "python/mypy.ini"], ["mypy"]),
     "growths": (["tests/program/refuse_growths.py", "PROGRAM"], ["cc"]),
     "memory": (["tests/program/search_memory.py", "PROGRAM"], ["cc"]),
     "library": (["tests/library/library.py", "--puzzles=300", "--calls=20000", "--built=BUILT", "PROGRAM"],
@@ -138,7 +139,7 @@ class Gate:
         """A check that is one test."""
         if self.missing(name, probes):
             return
-        status, wrote = self.run(name, SECONDS, [self.python, "python/run", *words])
+        status, wrote = self.run(name, SECONDS, [self.python, *([] if words[0] == "-m" else ["python/run"]), *words])
         if status == 0:
             self.passed += 1
         elif status is not None:
@@ -162,7 +163,7 @@ class Gate:
             return
         words = [self.python, "-m", "pytest", "-q", "-p", "no:cacheprovider", f"--junitxml={self.folder}/pytest.xml",
                  "--program=PROGRAM", "--library=BUILT/libpuzzles.so", "--module=BUILT/puzzles.wasm",
-                 *(["-n", str(min(CORES, 8))] if has_module("xdist", self.python) else [])]
+                 *(["-n", str(min(CORES, 8)), "--dist", "loadgroup"] if has_module("xdist", self.python) else [])]
         status, wrote = self.run("pytest", TESTS_SECONDS, words)
         if status is None:
             return

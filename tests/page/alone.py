@@ -146,7 +146,8 @@ def renewed(page, served, tally, module):
             shutil.copytree(TOP / name, source / name)
         table = source / "page" / "web" / "languages" / "en.js"
         table.write_text(table.read_text().replace(OLD, NEW))
-        subprocess.run([sys.executable, source / "python" / "run", "page-static", fresh, "--module", module], check=True, timeout=WAIT, stdout=subprocess.DEVNULL)
+        words = [sys.executable, source / "python" / "run", "page-static", fresh, "--module", module]
+        subprocess.run(words, check=True, timeout=WAIT, stdout=subprocess.DEVNULL)
         for name in ("service.js", "languages/en.js"):  # first the one file, then the other
             shutil.copyfile(fresh / name, served.folder / name)
             tally.same(f"with a new {name} at first", seen(page, 1), {OLD})

@@ -27,8 +27,8 @@ class Process:
 
     def __init__(self, words: Words, *, has_group: bool = True, is_quiet: bool = False):
         self.has_group, self.owner = has_group, os.getpid()
-        self.child = subprocess.Popen(words, stdin=subprocess.PIPE, stdout=subprocess.PIPE, bufsize=0, start_new_session=has_group,
-                                      stderr=subprocess.DEVNULL if is_quiet else None)
+        self.child = subprocess.Popen(words, stdin=subprocess.PIPE, stdout=subprocess.PIPE, bufsize=0,
+                                      stderr=subprocess.DEVNULL if is_quiet else None, start_new_session=has_group)
         assert self.child.stdin and self.child.stdout
         self.given, self.taken = self.child.stdin, self.child.stdout
         for pipe in (self.given, self.taken):
@@ -42,8 +42,8 @@ class Process:
         return self.is_mine() and self.child.poll() is None
 
     def pieces(self, sent: bytes, clock: Clock, *, is_last: bool = False) -> Iterator[bytes]:
-        """Sends bytes, and closes the input if they are the last. Gives what comes, until the output ends or the caller has enough.
-        Raises TimeoutError if the clock ends; what has come by then is given first."""
+        """Sends bytes, and closes the input if they are the last. Gives what comes, until the output ends or the caller has
+        enough. Raises TimeoutError if the clock ends; what has come by then is given first."""
         rest, was_over = memoryview(sent), False
         with selectors.PollSelector() as pipes:
             pipes.register(self.taken, selectors.EVENT_READ)

@@ -122,8 +122,8 @@ class Table:
         _, refusals, _, _, puzzles, _ = self.change(
             ("DELETE FROM source WHERE name = ? AND game = ?", [of]),
             ("DELETE FROM refusal WHERE source = ? AND game = ?", [of]),
-            (f"UPDATE puzzle SET times = times - (SELECT times {mine} AND id = puzzle.id) WHERE game = ? AND id IN (SELECT id {mine})",
-             [(*of, game, *of)]),
+            (f"UPDATE puzzle SET times = times - (SELECT times {mine} AND id = puzzle.id) "
+             f"WHERE game = ? AND id IN (SELECT id {mine})", [(*of, game, *of)]),
             (f"DELETE {mine}", [of]),
             ("DELETE FROM puzzle WHERE game = ? AND times = 0", [(game,)]),
             (f"UPDATE puzzle SET source = ({other} ORDER BY line LIMIT 1) WHERE {first}",
@@ -138,7 +138,8 @@ class Table:
         known, = self.base.execute("SELECT (SELECT coalesce(sum(times), 0) FROM met WHERE source = ?1 AND game = ?2) + "
                                    "(SELECT count(*) FROM refusal WHERE source = ?1 AND game = ?2)", (source, game)).fetchone()
         if known != taken[0]:
-            raise Fault(f"{source} was taken by an older version, which kept no list of its puzzles: so make the table anew", REFUSED)
+            raise Fault(f"{source} was taken by an older version, which kept no list of its puzzles: so make the table anew",
+                        REFUSED)
 
     def count(self, game, wanted):
         """How many puzzles of a game are as a condition says."""
