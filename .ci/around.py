@@ -29,7 +29,7 @@ SCRIPTS = {  # words behind python/run, or of Python itself, and what it needs: 
     "promises": (["tests/tree/promises.py"], []),
     "documents": (["tests/tree/documents.py"], []),
     "types": (["tests/tree/search_types.py"], ["rt", COMMIT]),
-    "mypy": (["-m", "mypy", "--config-file", "python/mypy.ini"], ["mypy"]),
+    "mypy": (["-m", "mypy", "--cache-dir", os.devnull, "--config-file", "python/mypy.ini"], ["mypy"]),
     "growths": (["tests/program/refuse_growths.py", "PROGRAM"], ["cc"]),
     "memory": (["tests/program/search_memory.py", "PROGRAM"], ["cc"]),
     "library": (["tests/library/library.py", "--puzzles=300", "--calls=20000", "--built=BUILT", "PROGRAM"],
@@ -122,7 +122,8 @@ class Gate:
             words = [str(word).replace(key, str(value)) for word in words]
         done = subprocess.run([sys.executable, HERE / "part.py", str(seconds), log, *words], cwd=TOP, stdin=subprocess.DEVNULL,
                               stdout=subprocess.PIPE, text=True, check=False,
-                              env={**os.environ, "PYTHONDONTWRITEBYTECODE": "1", **more})
+                              env={**os.environ, "PYTHONDONTWRITEBYTECODE": "1",
+                                                "HYPOTHESIS_STORAGE_DIRECTORY": str(self.folder / "hypothesis"), **more})
         wrote = log.read_text(errors="replace") if log.exists() else ""
         clock, used, why = [*done.stdout.strip().split(" ", 2), "", "", ""][:3]
         said(f"{name}: {clock} s, {used} of the processor")
