@@ -25,10 +25,11 @@ APT_SECONDS = 600
 CORES = os.cpu_count() or 1
 SHOWN = 4000  # letters of what a failed part wrote
 COMMIT = "commit that git can read"
-SCRIPTS = {  # words behind python/run, and what it needs: programs, modules, or files that were built
+SCRIPTS = {  # words behind python/run, or of Python itself, and what it needs: programs, or files that were built
     "promises": (["tests/tree/promises.py"], []),
     "documents": (["tests/tree/documents.py"], []),
     "types": (["tests/tree/search_types.py"], ["rt", COMMIT]),
+    "mypy": (["-m", "mypy", "--cache-dir", os.devnull, "--config-file", "python/mypy.ini"], ["mypy"]),
     "growths": (["tests/program/refuse_growths.py", "PROGRAM"], ["cc"]),
     "memory": (["tests/program/search_memory.py", "PROGRAM"], ["cc"]),
     "library": (["tests/library/library.py", "--puzzles=300", "--calls=20000", "--built=BUILT", "PROGRAM"],
@@ -66,7 +67,8 @@ def lacking():
         if line and not line.startswith("#"):
             package, probe = line.split()[:2]
             if probe != "-":
-                is_lacking = not (is_program(probe) or debian and probe.isidentifier() and has_module(probe, debian))
+                module = probe.removeprefix("import:")
+                is_lacking = not (is_program(probe) if module == probe else debian and has_module(module, debian))
             if is_lacking:
                 yield package
 
@@ -104,8 +106,7 @@ class Gate:
         if probe == COMMIT:
             words = ["git", "-C", str(TOP), "rev-parse", "--verify", "HEAD"]
             return bool(shutil.which("git")) and not subprocess.run(words, capture_output=True, check=False).returncode
-        return bool(is_program(probe) or (self.built / probe).is_file()
-                    or probe.isidentifier() and has_module(probe, self.python))
+        return is_program(probe) or (self.built / probe).is_file()
 
     def missing(self, name, probes):
         """Whether something is missing that a part needs, which is then skipped."""
@@ -121,7 +122,8 @@ class Gate:
             words = [str(word).replace(key, str(value)) for word in words]
         done = subprocess.run([sys.executable, HERE / "part.py", str(seconds), log, *words], cwd=TOP, stdin=subprocess.DEVNULL,
                               stdout=subprocess.PIPE, text=True, check=False,
-                              env={**os.environ, "PYTHONDONTWRITEBYTECODE": "1", **more})
+                              env={**os.environ, "PYTHONDONTWRITEBYTECODE": "1",
+                                                "HYPOTHESIS_STORAGE_DIRECTORY": str(self.folder / "hypothesis"), **more})
         wrote = log.read_text(errors="replace") if log.exists() else ""
         clock, used, why = [*done.stdout.strip().split(" ", 2), "", "", ""][:3]
         said(f"{name}: {clock} s, {used} of the processor")
@@ -138,7 +140,7 @@ class Gate:
         """A check that is one test."""
         if self.missing(name, probes):
             return
-        status, wrote = self.run(name, SECONDS, [self.python, "python/run", *words])
+        status, wrote = self.run(name, SECONDS, [self.python, *([] if words[0] == "-m" else ["python/run"]), *words])
         if status == 0:
             self.passed += 1
         elif status is not None:
@@ -162,7 +164,7 @@ class Gate:
             return
         words = [self.python, "-m", "pytest", "-q", "-p", "no:cacheprovider", f"--junitxml={self.folder}/pytest.xml",
                  "--program=PROGRAM", "--library=BUILT/libpuzzles.so", "--module=BUILT/puzzles.wasm",
-                 *(["-n", str(min(CORES, 8))] if has_module("xdist", self.python) else [])]
+                 *(["-n", str(min(CORES, 8)), "--dist", "loadgroup"] if has_module("xdist", self.python) else [])]
         status, wrote = self.run("pytest", TESTS_SECONDS, words)
         if status is None:
             return

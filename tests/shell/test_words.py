@@ -63,7 +63,7 @@ def offered_by(bench, shell, line, path):
         return [word.split("\t")[0] for word in bench.run(["fish", "-c", f"complete -C '{line}'"], PATH=path).stdout.splitlines()]
     if shell == "bash":
         return [word for word in bench.run(["bash", "--norc", "-c", BASH, "bash", line], PATH=path).stdout.splitlines() if word]
-    done = bench.run(["zsh", "-f", "-c", ZSH, "zsh", line], PATH=path, seconds=60)
+    done = bench.run(["zsh", "-f", "-c", ZSH, "zsh", line], PATH=path)
     return re.findall("<([^<>\r\n]+)>", done.stdout)
 
 
