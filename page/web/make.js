@@ -12,6 +12,7 @@ import { show } from "./show.js";
 import { $, say, table } from "./table.js";
 
 const SEEDS = 1_000_000, SOON = 3; // seeds that are drawn from, and seconds that a player waits before it goes on behind
+const BEHIND = 300; // seconds in which it is given up behind
 const PLAYED = 10, AHEAD = 30; // steps after which the next puzzle is made, and the seconds that this may take
 const reasoner = new Limited("./reason.js"), reason = (name, ...about) => reasoner.ask(name, ...about);
 const anySeed = () => String(Math.floor(Math.random() * SEEDS));
@@ -98,7 +99,8 @@ export async function generate() {
 async function makeFrom(asked, isOver) {
   const soon = within(SOON), told = await make(call, reason, asked, AT_ONCE, () => isOver() || soon());
   if (!told.next || !asked.level || isOver()) return told;
-  return make(callBehind, reason, { ...asked, seed: told.next }, 1, isOver);
+  const end = within(BEHIND);
+  return make(callBehind, reason, { ...asked, seed: told.next }, 1, () => isOver() || end());
 }
 
 // While a puzzle is played, from some steps on, the next one of its kind is made.
