@@ -1,6 +1,6 @@
 #!/usr/bin/env python3
-"""Writes the tables of bench/README.md anew, all with one program on this machine, that of grades of README.md too, and the minutes
-of docs/CONTRIBUTING.md.
+"""Writes the tables of bench/README.md anew, all with one program on this machine, that of grades of docs/USE.md too, and the
+minutes of docs/CONTRIBUTING.md.
 
 A line `<!-- COMMAND -->` of the two, with a script of this folder and its words, begins a part, and `<!-- end -->` ends
 it. What the command prints takes the place of the lines between. PROGRAM stands for the program, and `machine` for what is
@@ -23,7 +23,7 @@ from support import words
 from puzzles._work import begin
 
 TOP = pathlib.Path(__file__).resolve().parent.parent
-FIGURES, FRONT, CHANGES = TOP / "bench" / "README.md", TOP / "README.md", TOP / "docs" / "CONTRIBUTING.md"
+FIGURES, FRONT, CHANGES = TOP / "bench" / "README.md", TOP / "docs" / "USE.md", TOP / "docs" / "CONTRIBUTING.md"
 PART = re.compile(r"(?ms)^<!-- (.*?) -->\n(.*?)^<!-- end -->$")
 HEAD = "| Crate | Proof | Tests | Wrong bodies | Their number |\n|---|---|---|---|---|\n"
 COMMAND_SECONDS = 1800

@@ -2,10 +2,20 @@
 // old file ever stands beside a new one. `page/static.py` writes the files and the version into this line:
 const VERSION = "", FILES = {};
 
-const PREFIX = "puzzles ", NAME = PREFIX + VERSION;
+const PREFIX = `puzzles ${registration.scope} `, NAME = PREFIX + VERSION;
 
+// All files or none: half a version would be of no use.
 async function keepAll() {
   const cache = await caches.open(NAME);
+  try {
+    await fill(cache);
+  } catch (fault) {
+    await caches.delete(NAME);
+    throw fault;
+  }
+}
+
+async function fill(cache) {
   await Promise.all(Object.entries(FILES).map(async ([name, hash]) => {
     const reply = await fetch(new Request(name, { integrity: `sha256-${hash}`, cache: "no-cache" }));
     if (!reply.ok) throw new Error(`${name}: ${reply.status}`);
@@ -13,9 +23,17 @@ async function keepAll() {
   }));
 }
 
+// Older versions of this folder go. Those before names had the folder are known by what they hold.
 async function dropOthers() {
-  const names = await caches.keys();
-  await Promise.all(names.filter((name) => name.startsWith(PREFIX) && name !== NAME).map((name) => caches.delete(name)));
+  const names = await caches.keys(), old = names.filter((name) => /^puzzles [0-9a-f]{16}$/.test(name));
+  const ours = await Promise.all(old.map(isOurs));
+  const others = [...names.filter((name) => name.startsWith(PREFIX) && name !== NAME), ...old.filter((_, k) => ours[k])];
+  await Promise.all(others.map((name) => caches.delete(name)));
+}
+
+async function isOurs(name) {
+  const kept = await (await caches.open(name)).keys();
+  return kept.some(({ url }) => url === new URL("index.html", registration.scope).href);
 }
 
 async function reply(request) {

@@ -90,6 +90,18 @@ export function note(number, kind) {
   }));
 }
 
+// Candidates that a hint has struck go out of the notes.
+export function strike(candidates) {
+  const gone = new Map();
+  for (const [cell, number] of candidates) gone.set(cell, [...(gone.get(cell) || []), String(number)]);
+  const wanted = [...gone].flatMap(([cell, numbers]) => Object.keys(NOTES).flatMap((kind) => {
+    const there = numbersIn(kind, cell), isAny = numbers.some((number) => there.has(number));
+    numbers.forEach((number) => there.delete(number));
+    return isAny ? [NOTES[kind].to(cell, there)] : [];
+  }));
+  if (wanted.length) change(wanted);
+}
+
 // Notes of all numbers that a cell can have, in each cell that has none yet.
 export function allNotes() {
   const { play: { puzzle, state }, board: { standing } } = table;

@@ -1,18 +1,20 @@
 // What a player asks of a puzzle: is it right so far, what comes next, what is the solution, how hard is it.
+import { strike } from "./acts.js";
 import { answer, ask, isBusy, reason } from "./ask.js";
 import { Board, element } from "./board.js";
 import { solved } from "./clock.js";
+import { tell as end } from "./end.js";
 import { words } from "./language.js";
 import { gradeOf, levelOf } from "./levels.js";
 import { pictureOf } from "./pictures.js";
 import { call } from "./program.js";
-import { isFilled, places, print, scan } from "./puzzle.js";
+import { presses } from "./presses.js";
+import { isFilled, noted, places, print, scan } from "./puzzle.js";
 import { mayBeWhole } from "./standing.js";
 import { $, choose, point, say, table } from "./table.js";
-import { worded } from "./worded.js";
 
 const PAUSE = 300; // milliseconds after a step, before what may be the end is checked
-let waiting, looked; // what a hint has pointed out before it tells all
+let waiting, looked, asked; // what a hint has still to tell, and of which puzzle Solve was pressed once
 
 const named = () => ({ game: table.play.puzzle.game, id: table.play.id });
 const marks = (cells, why) => new Map(cells.map((place) => [place, why]));
@@ -25,9 +27,11 @@ export async function check() {
   if (told.verdict !== "one") return void checkRules(words.said[told.verdict]);
   const right = scan(puzzle, told.grids[0]), isRight = (sign, place) => sign.replace("•", ".") === right[place];
   const wrong = state.flatMap((sign, place) => (isFilled(sign) && !isRight(sign, place) ? place : []));
+  const lacking = state.flatMap((sign, place) => (noted(sign)?.includes(Number(right[place])) === false ? place : []));
   if (!wrong.length && state.every((sign, place) => isFilled(sign) || right[place] === ".")) return void finish();
-  point({ marked: marks(wrong, "wrong") });
-  if (wrong.length) say(words.wrong(wrong.length), "bad", words.because.wrong);
+  point({ marked: new Map([...marks(lacking, "wrongNote"), ...marks(wrong, "wrong")]) });
+  const said = [wrong.length && words.wrong(wrong.length), lacking.length && words.wrongNotes(lacking.length)].filter(Boolean);
+  if (said.length) say(said.join(" "), "bad", words.because.wrong);
   else say(words.said.noMistake, "good", words.because.noMistake);
 }
 
@@ -45,6 +49,14 @@ function finish() {
   table.board.grid.classList.add("done");
   solved(table.play);
   say(drawn ? words.picture(words.pictures[drawn]) : words.said.correct, "good");
+  end();
+}
+
+// The words go, and what they pointed out.
+export function close() {
+  looked = undefined;
+  say("");
+  point({});
 }
 
 // After a step that may be the last the board is checked without being asked.
@@ -63,40 +75,50 @@ async function tryEnd() {
   else if (told && puzzle.block) say(words.said.filledWrong, "bad");
 }
 
-// The first press shows where to look, and the next one what stands there.
+// The first press shows where to look, each next one a step, and the last one what stands there. What a step has struck goes out
+// of the player's notes.
 export async function hint() {
   const { play } = table, { puzzle, state, version } = play;
-  if (looked?.play === play && looked.version === version) return tell(looked.told);
+  if (looked?.play === play && looked.version === version && looked.open.length) return next();
   const told = await answer(() => hinted(puzzle, state), { ofBoard: true });
   if (!told) return undefined;
   if (told.verdict) return say(words.noHint(words.said[told.verdict]), "bad");
   if (told.kind === "done") return check();
-  if (!told.reasons.length) return tell(told);
-  looked = { play, version, told };
-  point({ house: new Set(told.look.house), isHint: true });
-  return say(words.look(worded(puzzle, told.look.why)), "", words.said.hintMore);
+  looked = { play, version, open: presses(words, puzzle, told) };
+  if (told.kind !== "wrong") play.hints += 1;
+  return next();
 }
+
+function next(isAll = false) {
+  if (looked.strikes) strike(looked.strikes);
+  if (isAll) looked.open = looked.open.slice(-1);
+  const [press, ...open] = looked.open, { text, note, isWrong, focus, house, witness = [], marked, struck = [], shown } = press;
+  looked = { ...looked, version: looked.play.version, open, strikes: press.strikes };
+  if (focus !== undefined) choose(focus, document.activeElement?.classList.contains("cell"));
+  point({ marked: new Map(marked), struck: new Map(struck), shown: new Map(shown), house: new Set(house),
+    witness: new Set(witness), isHint: !isWrong });
+  say(text, isWrong ? "bad" : "", note);
+  $("rest").hidden = open.length < 4;
+}
+
+// Leaves the steps out.
+export const rest = () => next(true);
 
 async function hinted(puzzle, state) {
   const solved = await call("solve", named());
   if (solved.verdict !== "one") return solved;
   const signs = state.map((sign) => (isFilled(sign) ? sign.replace("•", "x") : "."));
-  return reason("hint", puzzle, signs, scan(puzzle, solved.grids[0]));
+  return reason("hint", puzzle, signs, scan(puzzle, solved.grids[0]), { notes: state.map(noted), last: table.play.last });
 }
 
-function tell({ kind, cells, values = [], house, reasons, more, sign }) {
-  const { puzzle } = table.play, isWrong = kind === "wrong";
-  looked = undefined;
-  choose(cells[0], false);
-  const signOf = (value) => (puzzle.block ? String(value) : value ? sign : "•");
-  point({ marked: marks(cells, isWrong ? "wrong" : "hint"), house: new Set(house), isHint: !isWrong,
-    shown: new Map(values.map((value, k) => [cells[k], signOf(value)])) });
-  const told = words.hint(worded(puzzle, { kind, cells, values, reasons, more }), puzzle.game);
-  say(told, isWrong ? "bad" : "", words.because[kind]);
-}
-
+// The first press only asks, for what was shown doesn't count as solved.
 export async function solve() {
-  const { play } = table, { puzzle } = play, told = await ask("solve", named());
+  const { play } = table, { puzzle } = play;
+  if (asked !== play && !play.isShown) {
+    asked = play;
+    return say(words.said.solveAsk, "");
+  }
+  const told = await ask("solve", named());
   if (!told || play !== table.play) return;
   const grids = told.grids.map((rows) => scan(puzzle, rows)), [first, second] = grids;
   const differ = second ? first.flatMap((sign, place) => (sign === second[place] ? [] : place)) : [];
@@ -106,7 +128,8 @@ export async function solve() {
     board.paint({ state: signs, extras: {} }, { marked: marks(differ, "differs") });
     return element("figure", {}, board.grid, element("figcaption", {}, words.solution(k + 1)));
   }));
-  $("solutions").scrollIntoView({ block: "nearest", behavior: "smooth" });
+  const isStill = matchMedia("(prefers-reduced-motion: reduce)").matches;
+  $("solutions").scrollIntoView({ block: "nearest", behavior: isStill ? "auto" : "smooth" });
   say(words.said[told.verdict] + (second ? ` ${words.differ(differ.length)}` : ""));
 }
 

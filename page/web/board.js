@@ -63,11 +63,13 @@ export class Board {
   }
 
   // Puts what stands there into the grid. Of what is pointed out `marked` has cells, each with a word of why; `house` those that
-  // a hint looks at; `shown` the signs that it tells; `near` the lines of the chosen cell, `same` those with its number, and
-  // `chosen` more cells that are chosen. With the places that changed only what they touch is looked at again.
+  // a hint looks at; `shown` the signs that it tells; `struck` the numbers that it takes away; `witness` what bars others; `near`
+  // the lines of the chosen cell, `same` those with its number, and `chosen` more cells that are chosen. With the places that
+  // changed only what they touch is looked at again.
   paint(play, pointed, changed) {
-    const { state, extras } = play, { marked, house, shown, near, same, chosen, isChecked } = pointed;
-    const points = new Set([marked, house, shown, near, same, chosen].flatMap((some) => [...(some?.keys() || [])]));
+    const { state, extras } = play, { marked, house, shown, struck, witness, near, same, chosen, isChecked } = pointed;
+    const all = [marked, house, shown, struck, witness, near, same, chosen];
+    const points = new Set(all.flatMap((some) => [...(some?.keys() || [])]));
     const touched = new Set([...this.standing.update(state, changed), ...this.pointed, ...points]);
     this.pointed = points;
     for (const place of touched) {
@@ -83,32 +85,33 @@ export class Board {
     return new Set(places.flatMap((place) => [place % w, w + Math.floor(place / w)]));
   }
 
-  paintCell(place, sign, colour, corners, { marked, house, shown, near, same, chosen, isChecked }) {
+  paintCell(place, sign, colour, corners, { marked, house, shown, struck, witness, near, same, chosen, isChecked }) {
     const p = this.puzzle, x = place % p.w, y = Math.floor(place / p.w), { standing } = this;
     const is = { crossed: p.crossed && (x === y || x === p.w - 1 - y), fixed: p.fixed[place] !== "", note: sign[0] === "'",
       lit: standing.isLit(place), met: standing.isMet(place), broken: isChecked && standing.isBroken(place),
       near: near?.has(place), same: same?.has(place), house: house?.has(place), marked: marked?.has(place),
-      chosen: chosen?.has(place) };
-    const names = Object.keys(is).filter((name) => is[name]).join(" "), why = marked?.get(place), told = shown?.get(place) || "";
-    const look = `${sign} ${names} ${why} ${told} ${colour} ${corners}`;
+      chosen: chosen?.has(place), witness: witness?.has(place), [marked?.get(place)]: true };
+    const names = Object.keys(is).filter((name) => is[name] && name !== "undefined").join(" "), why = marked?.get(place);
+    const told = shown?.get(place) || "", gone = struck?.get(place)?.join(" ") || "";
+    const look = `${sign} ${names} ${told} ${gone} ${colour} ${corners}`;
     if (look === this.shown[place]) return;
     this.shown[place] = look;
     const cell = this.cells[place], notes = is.note ? sign.slice(1).split(" ") : [];
     cell.className = `cell ${names}`;
-    Object.assign(cell.dataset, { sign: is.note ? "." : sign, shown: told, colour });
+    Object.assign(cell.dataset, { sign: is.note ? "." : sign, shown: told, colour, struck: gone });
     const text = is.note ? noteText(p, notes, corners) : /\d/.test(sign) ? sign : "";
     if (cell.textContent !== text) cell.textContent = text;
     if (p.block) paintCorners(cell, told || text === sign ? [] : corners.split(" ").filter(Boolean));
-    cell.ariaLabel = this.name(place, this.content(sign, notes, is, colour, corners, why, told));
+    cell.ariaLabel = this.name(place, this.content(sign, notes, is, colour, corners, why, told, gone));
   }
 
   // What a screen reader says of a cell: first what stands there, then where it is.
-  content(sign, notes, is, colour, corners, why, told) {
+  content(sign, notes, is, colour, corners, why, told, gone) {
     const { signs, states } = words, black = this.puzzle.game === "lightup" && isNumber(sign);
     const what = is.note ? `${words.notes} ${notes.join(" ")}` : signs[sign] || (black ? `${signs["#"]} ${sign}` : sign);
     const more = [is.fixed && this.puzzle.block && states.given, is.met && states.met, is.lit && states.lit,
       is.broken && states.broken, corners && `${words.corners} ${corners}`, colour && `${words.page.colour} ${colour}`,
-      why && states[why], told && words.shown(signs[told] || told)];
+      is.witness && states.witness, why && states[why], gone && words.struck(gone), told && words.shown(signs[told] || told)];
     return [what, ...more.filter(Boolean)].join(", ");
   }
 

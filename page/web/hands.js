@@ -61,10 +61,19 @@ function move(event) {
   else if (place !== undefined && place !== stroke.place) drawTo(place);
 }
 
+// The number of a clue that is nearest, so that a finger needn't hit it.
+function nearest(clue, { target, clientX, clientY }) {
+  const far = (span) => {
+    const { left, right, top, bottom } = span.getBoundingClientRect();
+    return span === target ? -1 : Math.hypot((left + right) / 2 - clientX, (top + bottom) / 2 - clientY);
+  };
+  return [...clue.children].reduce((best, span) => (far(span) < far(best) ? span : best));
+}
+
 // A tap, or a click of a screen reader; a mouse has done its work when it was pressed. A number of a clue is crossed off.
 function click(event) {
-  const place = placeOf(event.target), { key } = event.target.dataset;
-  if (key) return cross(key);
+  const place = placeOf(event.target), clue = event.target.closest(".clue");
+  if (clue) return cross(nearest(clue, event).dataset.key);
   if (place === undefined || (pointer !== "touch" && event.detail > 0)) return undefined;
   if (table.play.puzzle.block) return touchCell(place, false);
   choose(place);

@@ -1,38 +1,45 @@
 // What a visitor has filled in is kept in the browser, for each puzzle, with its steps, so that a reload or a look at another
 // one loses nothing. A bounded number of puzzles is kept, and of more the oldest goes. A browser that keeps nothing is no fault.
-import { attempt } from "./storage.js";
+import { isDay } from "./days.js";
+import { attempt, drop as remove, get, set } from "./storage.js";
 
 const MOST = 50, STEPS = 1000, LIST = "puzzles";
 export const keyOf = (name) => `puzzles ${name}`;
 
 const isText = (value) => typeof value === "string";
-export const list = () => attempt(() => JSON.parse(localStorage.getItem(LIST)).filter(isText)) || [];
+export const list = () => attempt(() => JSON.parse(get(LIST)).filter(isText)) || [];
 
 function drop(names) {
   const [oldest, ...others] = names;
-  localStorage.removeItem(keyOf(oldest));
+  remove(keyOf(oldest));
   return others;
 }
 
 // Keeps a puzzle under its name, or nothing of one that is as it was at first. If there is no room, older puzzles go until there
-// is.
+// is. The page is told where even that doesn't help.
 export function keep(name, parts) {
   const recent = (steps) => steps.slice(-STEPS);
   const shortened = () => ({ ...parts, signs: parts.signs.join(), done: recent(parts.done), undone: recent(parts.undone) });
   const text = parts && JSON.stringify(shortened());
-  const isKept = () => attempt(() => localStorage.setItem(keyOf(name), text) || true);
+  const isKept = () => attempt(() => set(keyOf(name), text) || true);
+  let isThere = false;
   attempt(() => {
     let names = list().filter((other) => other !== name);
     while (names.length >= MOST) names = drop(names);
-    if (!parts) localStorage.removeItem(keyOf(name));
-    else while (!isKept() && names.length) names = drop(names);
-    localStorage.setItem(LIST, JSON.stringify(parts ? [...names, name] : names));
+    isThere = !parts || isKept();
+    if (!parts) remove(keyOf(name));
+    while (!isThere && names.length) {
+      names = drop(names);
+      isThere = isKept();
+    }
+    set(LIST, JSON.stringify(parts ? [...names, name] : names));
   });
+  if (!isThere && parts) dispatchEvent(new Event("unkept"));
 }
 
 // What was kept: its parts, of which nothing is known yet. Signs alone are what an older version kept.
 export function parts(name) {
-  const text = attempt(() => localStorage.getItem(keyOf(name))) || "";
+  const text = get(keyOf(name)) || "";
   const found = attempt(() => JSON.parse(text));
   return found && isText(found.signs) ? { ...found, signs: found.signs.split(",") } : text && { signs: text.split(",") };
 }
@@ -57,15 +64,16 @@ export function kept(name, puzzle) {
     promise: promised(found.promise) };
 }
 
-// A grade and what a puzzle needs, if they look like these.
+// A grade, what a puzzle needs and the day whose puzzle it is, if they look like these.
 export function promised(found) {
-  if (!/^(singles|houses|crossings|lines|local|search \d+)$/.test(found?.grade)) return {};
+  const day = isDay(found?.day) ? { day: found.day } : {};
+  if (!/^(singles|houses|crossings|lines|local|search \d+)$/.test(found?.grade)) return day;
   const areTimes = attempt(() => Object.values(found.needs).every(Number.isInteger));
-  return { grade: found.grade, needs: areTimes ? found.needs : undefined };
+  return { grade: found.grade, needs: areTimes ? found.needs : undefined, ...day };
 }
 
 // The puzzle that was looked at last: of a game, or of all.
 export function look(game, id) {
-  attempt(() => [game, "any"].forEach((of) => localStorage.setItem(keyOf(`last ${of}`), `${game}/${id}`)));
+  attempt(() => [game, "any"].forEach((of) => set(keyOf(`last ${of}`), `${game}/${id}`)));
 }
-export const last = (game = "any") => attempt(() => localStorage.getItem(keyOf(`last ${game}`))) || "";
+export const last = (game = "any") => get(keyOf(`last ${game}`)) || "";

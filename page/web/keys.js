@@ -1,9 +1,10 @@
 // Keys on the board.
 import { change, enter, erase, redo, turn, undo } from "./acts.js";
+import { close } from "./answers.js";
 import { $, choose, chooseMore, table } from "./table.js";
 
 const SOON = 1000; // milliseconds between two digits of one number
-const BUTTONS = { h: "hint", c: "check" }, OF_SOLO = { n: "notes", k: "corners" };
+const BUTTONS = { h: "hint", c: "check", "?": "explain", "+": "larger", "-": "smaller" }, OF_SOLO = { n: "notes", k: "corners" };
 
 let typed = { text: "" };
 
@@ -43,7 +44,8 @@ function nextPlace(pressed) {
 // What a key does, if it does anything.
 function actOf(event) {
   const pressed = event.key, { block } = table.play.puzzle, next = nextPlace(pressed), number = block && numberOf(event);
-  const letter = event.shiftKey ? "" : pressed.toLowerCase();
+  const letter = event.shiftKey && pressed !== "?" && pressed !== "+" ? "" : pressed.toLowerCase();
+  if (pressed === "Escape") return close;
   if (next !== undefined) return () => arrow(event, next);
   if (["Delete", "Backspace", "0"].includes(pressed)) return erase;
   if (number) return () => type(number, typed);
@@ -53,7 +55,8 @@ function actOf(event) {
 }
 
 function key(event) {
-  if (!table.play || event.target.closest("input, textarea, select, summary")) return;
+  if (!table.play || event.target.closest("input, textarea, select, summary, dialog")) return;
+  if (document.body.classList.contains("paused")) return;
   const isCommand = event.ctrlKey || event.metaKey;
   if (isCommand && !event.altKey && /^[zy]$/i.test(event.key)) {
     event.preventDefault();

@@ -5,6 +5,7 @@ import { range, read, scan, written } from "./puzzle.js";
 
 export const LEVELS = ["easy", "medium", "hard"];
 const FEW = { solo: 0, pattern: 3, lightup: 0, tents: 0 }; // cells that a medium puzzle has tried out
+const LATE = ["clock", "busy"]; // why there is no answer yet
 const SECONDS = 3, LAST_SEED = (1n << 64n) - 1n, MAKING_BUDGET = "1000";
 
 // How hard a puzzle is for a player, by its grade and what it needs beyond.
@@ -31,31 +32,49 @@ export function blackOf(game, size) {
   return game === "lightup" ? { black: side < 10 ? "20" : side < 14 ? "25" : side < 30 ? "30" : "35" } : {};
 }
 
-// The first puzzle of a level from a seed on, or if no level is wanted the seed's own; so many seeds are tried at a time.
-export async function make(call, reason, { seed, level, ...asked }, atOnce = 1) {
-  const end = performance.now() + SECONDS * 1000, maker = { call, reason, asked, level };
+// The first puzzle of a level from a seed on, or if no level is wanted the seed's own; so many seeds are tried at a time. It goes
+// on until there is one or `isOver` says so; then `next` is the seed from which on none was tried.
+export async function make(call, reason, { seed, level, ...asked }, atOnce = 1, isOver = within(SECONDS)) {
+  const maker = { call, reason, asked, level };
   let next = BigInt(seed), told;
   do {
     const seeds = range(level ? atOnce : 1, (k) => next + BigInt(k)).filter((one) => one <= LAST_SEED || one === next);
     const all = await Promise.all(seeds.map((one) => made(maker, String(one))));
-    told = all.find(({ id, refused, failed }) => id || refused || (failed && failed !== "clock"));
+    told = all.find(({ isOf, refused, failed }) => isOf || refused || (failed && failed !== "clock"));
     next += BigInt(seeds.length);
-  } while (!told && level && next <= LAST_SEED && performance.now() < end);
-  return told || { verdict: "exhausted" };
+  } while (!told && level && next <= LAST_SEED && !isOver());
+  return told || { verdict: "exhausted", next: String(next) };
 }
 
-// The puzzle of one seed, if there is one and it has the level.
+// Says when so many seconds are over.
+export function within(seconds) {
+  const end = performance.now() + seconds * 1000;
+  return () => performance.now() >= end;
+}
+
+// The puzzle of one seed that is known to have the level, the same on each machine: a call that the clock ended is made again.
+export function makeKnown(call, reason, { seed, level, ...asked }, isOver = () => false) {
+  const patient = async (...words) => {
+    for (;;) {
+      const told = await call(...words);
+      if (!LATE.includes(told.failed) || isOver()) return told;
+    }
+  };
+  return made({ call: patient, reason, asked, level }, seed);
+}
+
+// The puzzle of one seed, if there is one, and whether it has the level.
 async function made({ call, reason, asked, level }, seed) {
   const { game, size } = asked, isCrossed = game === "solo" && size.endsWith("x"); // whose filling is a search
   const budget = isDeduced(game, level) && !isCrossed ? "0" : MAKING_BUDGET;
   const told = await call("generate", { ...asked, seed, budget });
-  if (!told.id || !level) return told;
+  if (!told.id || !level) return { ...told, isOf: Boolean(told.id) };
   let { id } = told, { grade, needs, failed } = await gradeOf(call, reason, { game, id }, told.grids[0]);
   if (game === "solo" && isDeduced(game, level) && isHarder(grade, level)) {
     ({ id, grade } = await eased(call, id, told.grids[0], seed, level));
   }
-  const isOf = grade && levelOf(game, grade, needs) === level;
-  return isOf ? { ...told, id, grade, needs } : { failed };
+  const isOf = Boolean(grade) && levelOf(game, grade, needs) === level; // without a grade the clock was met
+  return { ...told, id, grade, needs, isOf, failed };
 }
 
 // A Solo with as few more givens, in a drawn order, as bring it down to a level, and its grade. More givens take no solution

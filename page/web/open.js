@@ -3,6 +3,7 @@ import { ask, forget } from "./ask.js";
 import { GAMES, isGame } from "./games.js";
 import { last, promised } from "./kept.js";
 import { words } from "./language.js";
+import { linked as otherLink } from "./links.js";
 import { generate, keptWords } from "./make.js";
 import { written } from "./puzzle.js";
 import { refuse, setGame, show } from "./show.js";
@@ -28,18 +29,25 @@ async function open(game, text, options) {
 const plain = (text) => { try { return decodeURIComponent(text); } catch { return text; } };
 const parts = (name) => name.match(/^(\w*)\/(.*)$/s) || [name, "", name];
 
-// What a player has written: a link, a sudoku of 81 characters, or an ID.
+// Sudokus in a line: "." and "0", "_" and "*" are blank, and a letter is a number from 10 on.
+const SUDOKUS = { 16: "2x2", 36: "2x3", 81: "3x3", 256: "4x4" };
+const numberOf = (sign) => (/[.0_*]/.test(sign) ? "" : String(parseInt(sign, 36)));
+
+// What a player has written: a link, also of other pages, a sudoku of so many characters as it has cells, or an ID.
 function meant(text, game) {
-  const [, linked, id] = parts(plain(text.match(/#(\w+(\/|%2F).*)$/is)?.[1] || ""));
-  const cells = text.replace(/\s/g, "");
+  const [, linked, id] = parts(plain(text.match(/(?:^|#)([a-z]+(\/|%2F).*)$/is)?.[1] || ""));
+  const cells = text.replace(/\s/g, ""), other = otherLink(text);
   if (isGame(linked)) return [linked, id.trim()];
-  if (/^[\d.]{81}$/.test(cells)) return ["solo", written("3x3", [...cells].map((sign) => sign.replace(/[.0]/, "")))];
+  if (other?.id) return [other.game, other.id];
+  if (/^[\w.*]+$/.test(cells) && SUDOKUS[cells.length]) return ["solo", written(SUDOKUS[cells.length], [...cells].map(numberOf))];
   return [game, text];
 }
 
 // If the game that is chosen refuses an ID, another one may take it.
 export async function enter() {
   const chosen = $("game").value, [game, text] = meant($("id").value.trim(), chosen);
+  say("");
+  if (otherLink(text)?.isVariant) return void say(words.said.variant, "bad");
   if (await open(game, text) !== false || game !== chosen) return;
   const fault = [...$("fault").childNodes];
   for (const other of Object.keys(GAMES).filter((name) => name !== game)) {

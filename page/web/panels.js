@@ -37,7 +37,7 @@ function list(name, choices, act) {
 
 export function lay() {
   const looks = ["", "light", "dark"].map((look) => [look, words.looks[look || "system"]]);
-  const languages = [["", words.looks.system], ...Object.entries(LANGUAGES).map(([code, { language }]) => [code, language])];
+  const languages = [["", words.looks.system], ...Object.entries(LANGUAGES)];
   $("settings").append(...BOXES.map(box), list("look", looks, wear), list("language", languages, () => location.reload()));
   wear();
   clock.list();
@@ -50,5 +50,3 @@ export async function share() {
   const isCopied = await navigator.clipboard?.writeText(link.url).then(() => true, () => false);
   say(isCopied ? words.said.copied : words.said.notCopied);
 }
-
-export const paper = () => print();

@@ -17,15 +17,21 @@ export class Play {
   load() {
     const found = kept(this.name, this.puzzle) || {};
     const { signs = start(this.puzzle), extras = {}, done = [], undone = [], promise = {} } = found;
-    const { mark, seconds, isShown, isSolved } = found;
+    const { mark, seconds, hints, isShown, isSolved } = found;
     Object.assign(this, { state: signs, extras, done, undone, promise });
-    Object.assign(this, { mark: Number.isInteger(mark) ? mark : undefined, seconds: Number(seconds) || 0 });
+    Object.assign(this, { seconds: Number(seconds) || 0, hints: Number(hints) || 0 });
+    this.mark = Number.isInteger(mark) ? mark : undefined;
     [this.isShown, this.isSolved] = [isShown === true, isSolved === true];
     this.version += 1;
   }
 
   get isBlank() {
     return !Object.keys(this.extras).length && this.state.every((sign, place) => sign === (this.puzzle.fixed[place] || "."));
+  }
+
+  // The cell that was changed last.
+  get last() {
+    return this.done.at(-1)?.map(([key]) => key).findLast((key) => typeof key === "number");
   }
 
   of(key) {
@@ -79,8 +85,8 @@ export class Play {
   }
 
   keep() {
-    const { state, extras, done, undone, mark, seconds, promise, isShown, isSolved } = this;
+    const { state, extras, done, undone, mark, seconds, hints, promise, isShown, isSolved } = this;
     const isNew = this.isBlank && !done.length && !undone.length;
-    keep(this.name, isNew ? undefined : { signs: state, extras, done, undone, mark, seconds, promise, isShown, isSolved });
+    keep(this.name, isNew ? undefined : { signs: state, extras, done, undone, mark, seconds, hints, promise, isShown, isSolved });
   }
 }

@@ -8,3 +8,6 @@ export function call(name, fields) {
   const request = { method: "POST", headers, body: JSON.stringify(fields), signal };
   return fetch(name, request).then((reply) => reply.json()).catch(() => ({ failed: "away" }));
 }
+
+// Calls for what is made behind, which keep no other call waiting.
+export const callBehind = call;

@@ -72,6 +72,8 @@ export const around = (p, place) => near(p, place, [...SIDES, ...CORNERS]);
 
 export const start = (p) => p.fixed.map((sign) => sign || ".");
 export const isFilled = (sign) => sign[0] !== "." && sign[0] !== "'";
+// The numbers of a cell's notes, if it has some.
+export const noted = (sign) => (sign[0] === "'" ? sign.slice(1).split(" ").map(Number) : undefined);
 export const isNumber = (sign) => sign >= "0" && sign < ":";
 
 export const scan = (p, rows) => rows.flatMap((row) => row.split(p.block ? " " : ""));
@@ -86,3 +88,6 @@ export function places(p, fault) {
   const houses = { row: rowsOf, column: columnsOf, diagonal: diagonalsOf, block: blocksOf }[kind];
   return houses ? houses(p)[x] : where ? [y * p.w + x] : [];
 }
+
+// The kind of a refused ID, without its place.
+export const kindOf = (why) => why.replace(/ (at )?\d.*/, "");

@@ -5,10 +5,12 @@ import { GAMES, isGame } from "./games.js";
 import { keyOf, list, parts } from "./kept.js";
 import { words } from "./language.js";
 import { LEVELS, levelOf } from "./levels.js";
-import { isFilled, read } from "./puzzle.js";
+import { read } from "./puzzle.js";
 import { refusal } from "./refusal.js";
-import { attempt } from "./storage.js";
+import { progress } from "./standing.js";
+import { attempt, named } from "./storage.js";
 import { $, lay, say, table } from "./table.js";
+import { zoom } from "./zoom.js";
 
 // `promise` is what was told of its difficulty. The address is a new entry of the history, if not it named the puzzle.
 export function show(game, text, { promise = {}, isNamed = !table.play } = {}) {
@@ -16,17 +18,19 @@ export function show(game, text, { promise = {}, isNamed = !table.play } = {}) {
   lay(puzzle, text);
   const { play } = table;
   say("");
-  if (promise.grade) play.promise = promise;
+  if (promise.grade || promise.day) play.promise = promise;
   setGame(game, puzzle.size);
   $("id").value = text;
   refuse("");
   for (const name of ["act", "tools", "more"]) $(name).inert = false;
-  const { grade, needs } = play.promise;
-  $("level").textContent = grade ? words.grade(game, play.promise, levelOf(game, grade, needs)) : "";
+  const { grade, needs, day } = play.promise;
+  const level = grade ? words.grade(game, play.promise, levelOf(game, grade, needs)) : "";
+  $("level").textContent = day ? `${words.dayName(day)}. ${level}` : level;
   $("written").textContent = text;
   $("name").textContent = words.kind(game, puzzle.size);
   document.title = `${$("name").textContent} – puzzles`;
   if (play.isSolved) table.board.grid.classList.add("done");
+  zoom(0);
   clock.show();
   listBegun();
   if (location.hash !== address) history[isNamed ? "replaceState" : "pushState"]({ promise: play.promise }, "", address);
@@ -70,8 +74,8 @@ function listBegun() {
     const [game, text] = [name.slice(0, name.indexOf("/")), name.slice(name.indexOf("/") + 1)];
     const kept = isGame(game) && parts(name), puzzle = kept && attempt(() => read(game, text));
     if (!puzzle || kept.signs.length !== puzzle.fixed.length) return [];
-    const open = kept.signs.filter((_, place) => !puzzle.fixed[place]), filled = open.filter(isFilled).length;
-    return new Option(words.begun(words.kind(game, puzzle.size), filled, open.length, kept.isSolved === true), name);
+    const far = progress(puzzle, kept.signs);
+    return new Option(words.begun(words.kind(game, puzzle.size), ...far, kept.isSolved === true), name);
   });
   $("begunBox").hidden = !options.length;
   $("begun").replaceChildren(new Option(words.page.choose, ""), ...options);
@@ -80,7 +84,7 @@ function listBegun() {
 // Another page has the same puzzle open: what it keeps comes onto this table too.
 export function follow(act) {
   addEventListener("storage", ({ key }) => {
-    if (!table.play || key !== keyOf(table.play.name)) return;
+    if (!table.play || key !== named(keyOf(table.play.name))) return;
     table.play.load();
     act();
   });

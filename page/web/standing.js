@@ -89,3 +89,15 @@ export function mayBeWhole(standing) {
   if (puzzle.game === "lightup") return puzzle.fixed.every((sign, cell) => sign || standing.isLit(cell));
   return count(puzzle.game === "tents" ? "^" : "#") === sum(puzzle.rows);
 }
+
+// How far a puzzle is: what is counted of it, and how much that is at the end. In Solo that is numbers, in Pattern and Tents what
+// the clues count, and in Light Up cells that are lit.
+export function progress(puzzle, signs) {
+  const open = range(signs.length).filter((cell) => !puzzle.fixed[cell]), count = (of) => open.filter(of).length;
+  if (puzzle.block) return [count((cell) => isFilled(signs[cell])), open.length];
+  const sum = puzzle.rows.flat().reduce((a, b) => a + b, 0);
+  if (puzzle.game !== "lightup") return [count((cell) => "#^".includes(signs[cell])), sum];
+  const standing = new Standing(puzzle);
+  standing.update(signs);
+  return [count((cell) => standing.isLit(cell)), open.length];
+}

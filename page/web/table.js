@@ -5,7 +5,7 @@ import { Play } from "./play.js";
 import { isNumber, range } from "./puzzle.js";
 import { settings } from "./settings.js";
 
-const COLOURS = 6;
+const COLOURS = 6, LONG = 200; // and characters of a text that is set smaller on a phone
 export const MODES = ["notes", "corners", "colours"]; // what a number is, if it isn't one for the cell
 export const $ = (id) => document.getElementById(id);
 
@@ -17,7 +17,8 @@ export const table = { play: undefined, board: undefined, at: 0, chosen: new Set
 // What the page says. A note below it says less loudly what else there is.
 export function say(text, kind = "", note = "") {
   $("answer").replaceChildren(text, ...(note ? [element("small", {}, note)] : []));
-  $("answer").className = kind;
+  $("answer").className = text.length > LONG ? `${kind} long` : kind;
+  $("end").hidden = $("rest").hidden = true;
 }
 
 export function lay(puzzle, id) {

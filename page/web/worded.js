@@ -1,5 +1,5 @@
 // What the reasoner tells, as the words of a language take it: each cell as its row and its column, counted from 1.
-const ONE = ["cell", "pivot"], SOME = ["cells", "wings"];
+const ONE = ["cell", "pivot"], SOME = ["cells", "wings", "targets"];
 
 export function worded({ w }, told) {
   const at = (cell) => [Math.floor(cell / w) + 1, (cell % w) + 1];

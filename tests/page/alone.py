@@ -78,6 +78,8 @@ def try_page(server, tally, module):
         clock(page, tally)
         offline(page, server, tally)
         renewed(page, served, tally, module)
+        copies(page, served, tally)
+        half(page, served, tally)
     served.stop()
     for spoil, said in ABSENT:
         absent(tally, module, spoil, said)
@@ -128,7 +130,7 @@ def offline(page, server, tally):
     for game, size, seed, black in browser.GAMES:
         made = browser.made(server, game, size, seed, black)
         page.open(game, made["id"], is_fresh=False)
-        tally.same(f"solve of {game} without a network", page.answer("#solve"), "The only solution is below.")
+        tally.same(f"solve of {game} without a network", page.solution(), "The only solution is below.")
         tally.true(f"hint in {game} without a network", "Proved by the program" in page.hint()[1])
         browser.write(page, game, browser.signs_of(game, made["grids"][0]), len(made["grids"][0]))
         page.until_said("Correct. The puzzle is solved.")
@@ -165,6 +167,43 @@ def seen(page, visits, seconds=1.5):
         page.until("is there", page.is_ready)
         found.add(page.text("#today"))
     return found
+
+
+def copies(page, served, tally):
+    """Two copies at one origin keep their files and their puzzles apart, also what an older one kept without its folder."""
+    first = page.url
+    for name in ("a", "b"):
+        shutil.copytree(served.folder, served.folder / name, ignore=shutil.ignore_patterns("a", "b"))
+    page.driver.get(f"{first}icon.svg")
+    page.script("localStorage.clear();"
+                "localStorage.setItem('puzzles solo/2x2:1b4i3_2a', '1,2,' + '.,4,' + '.,'.repeat(9) + '3,2,.')")
+    for name in ("a", "b"):
+        page.url = f"{first}{name}/"
+        page.open("solo", "2x2:1b4i3_2a", is_fresh=False)
+        page.until(f"{name} keeps itself", lambda: page.driver.execute_async_script(ACTIVE))
+        tally.same(f"what an older page kept, in {name}", page.signs()[1], "2")
+        page.cells()[2].click()
+        page.keys("3" if name == "a" else "1")
+        page.open(is_fresh=False)
+    network(page, False)
+    for name, sign in (("a", "3"), ("b", "1")):
+        page.url = f"{first}{name}/"
+        page.open("solo", "2x2:1b4i3_2a", is_fresh=False)
+        tally.same(f"{name} without a network, and its own work", page.signs()[2].split(",")[0], sign)
+    network(page, True)
+    page.url = first
+
+
+def half(page, served, tally):
+    """A version of which a file isn't as it should be leaves no cache behind."""
+    shutil.copytree(served.folder / "a", served.folder / "c")
+    (served.folder / "c" / "tree.svg").write_text("<svg/>")
+    before, page.url = page.url, f"{page.url}c/"
+    page.open(is_fresh=False)
+    time.sleep(2)
+    names = page.driver.execute_async_script("const [done] = arguments; caches.keys().then(done)")
+    tally.same("caches of a half version", [name for name in names if "/c/" in name], [])
+    page.url = before
 
 
 def absent(tally, module, spoil, said):

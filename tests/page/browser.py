@@ -2,7 +2,7 @@
 import contextlib
 import tempfile
 
-from page import comfort, kept, looks, player, speed
+from page import comfort, expected, fingers, hinting, kept, looks, paper, player, speed
 from page.driver import By, Keys, Page, WebDriverException
 
 DESK = (1280, 800)
@@ -20,7 +20,9 @@ HOSTILE = ["--budget=5", "--", "<img src=x onerror=document.title='hurt'>", "';\
 
 def try_page(server, tally):
     """The page over its server, in Chromium."""
-    parts = [try_games, kept.try_kept, player.try_player, comfort.try_comfort, looks.try_looks, speed.try_speed]
+    parts = [try_games, kept.try_kept, player.try_player, comfort.try_comfort, looks.try_looks, fingers.try_fingers,
+             hinting.try_hinting, expected.try_expected,
+             paper.try_paper, speed.try_speed]
     with opened(server.url, tally) as page:
         for part in parts:
             part(page, server, tally)
@@ -80,7 +82,7 @@ def play(page, server, tally, game, size, seed, black):
     tally.same(f"{game}: check of a wrong cell", page.answer("#check").startswith("One cell is wrong."), True)
     tally.same(f"{game}: the mark", page.marked(), [asked[0]])
     page.click("#startOver")
-    tally.same(f"{game}: solve", page.answer("#solve"), "The only solution is below.")
+    tally.same(f"{game}: solve", page.solution(), "The only solution is below.")
     solution = "".join(row + "\n" for row in puzzle["grids"][0])
     tally.same(f"{game}: what solve shows", printed(page, game, puzzle["grids"][0], "#solutions"), solution)
     tally.same(f"{game}: what solve leaves", printed(page, game, puzzle["grids"][0]) == solution, False)
@@ -148,7 +150,7 @@ def printed(page, game, grid, within="#stage"):
 def several(page, tally):
     """Both grids of several, with the cells where they differ."""
     page.open("lightup", "2x2:Bc")
-    said = page.answer("#solve")
+    said = page.solution()
     tally.same("several", said, "This puzzle has several solutions. Two are below. They differ in the 3 marked cells.")
     marks = [len(figure.find_elements(By.CSS_SELECTOR, ".marked")) for figure in page.all("#solutions figure")]
     tally.same("several: the grids and their marks", marks, [3, 3])
@@ -158,11 +160,11 @@ def several(page, tally):
     page.cells()[2].click()
     page.until_said("Correct. The puzzle is solved.")
     page.open("pattern", "2x1:1/1/1")
-    tally.same("none", page.answer("#solve"), "This puzzle has no solution.")
+    tally.same("none", page.solution(), "This puzzle has no solution.")
     page.open("pattern", HARD)
-    tally.same("a long search", page.answer("#solve"), "Too hard to tell within the page’s limit.")
+    tally.same("a long search", page.solution(), "Too hard to tell within the page’s limit.")
     page.open("solo", "2x2:1b4i3_2a")
-    tally.same("a search after it", page.answer("#solve"), "The only solution is below.")
+    tally.same("a search after it", page.solution(), "The only solution is below.")
 
 
 def broken(page, tally, game, text, mark):

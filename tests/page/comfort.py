@@ -11,7 +11,8 @@ TOUCHING = "4x4:_h_e,1,1,1,1,1,1,1,1"
 
 
 def try_comfort(page, server, tally):
-    for part in (broken_rules, marks, tidy_notes, corner_notes, several_cells, number_first, dots, clue_numbers, begun, tabs, opened, settings,
+    for part in (broken_rules, marks, tidy_notes, corner_notes, several_cells, number_first, dots, clue_numbers, begun, tabs,
+                 opened, settings,
                  languages, today, solved, pictures, sharing):
         part(page, server, tally)
 

@@ -135,6 +135,21 @@ class Page:
         return self.text("#answer")
 
     def hint(self):
-        """Where to look, and what is told after a second press; the same twice if it is told at once."""
-        first = self.answer("#hint")
-        return (first, self.answer("#hint")) if "Press Hint again" in first else (first, first)
+        """Where to look, and what is told after the last press; the same twice if it is told at once."""
+        told = self.presses()
+        return told[0], told[-1]
+
+    def presses(self, most=100):
+        """What each press of Hint says, until the cells are told."""
+        told = [self.answer("#hint")]
+        while "Press Hint again" in told[-1] and len(told) < most:
+            before = self.text("#answer")
+            self.click("#hint")
+            self.until("tells the next step", lambda before=before: self.text("#answer") != before)
+            told.append(self.text("#answer"))
+        return told
+
+    def solution(self):
+        """What Solve says once it was pressed again; the first press only asks."""
+        told = self.answer("#solve")
+        return self.answer("#solve") if "Press Solve again" in told else told

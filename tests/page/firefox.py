@@ -1,5 +1,6 @@
 """The core of both pages in Firefox, by its own protocol (Marionette), since Debian has no driver for it.
 """
+import base64
 import json
 import os
 import shutil
@@ -9,7 +10,7 @@ import tempfile
 import time
 from pathlib import Path
 
-from page import alone, browser
+from page import alone, browser, paper
 
 WAIT = 60  # seconds of any wait
 START = 240  # seconds in which it has begun
@@ -142,9 +143,23 @@ def play(page, tally, game, made):
                 page.keys(sign)
     page.until(f"{game} is solved", "document.getElementById('answer').innerText.startsWith('Correct.')")
     tally.true(f"Firefox, {game}: the end", page.script("return document.querySelector('.board').classList.contains('done')"))
+    pictures(page, tally, game, signs)
     page.open(game, made["id"])
     filled = page.script("return [...document.querySelectorAll('#stage .cell')].map((cell) => cell.dataset.sign)")
     blank = [sign if sign != "." else "." for sign in signs]
     tally.same(f"Firefox, {game}: after a reload", filled, blank)
     page.click("#fresh")
     page.until(f"a new {game}", "document.getElementById('id').value !== arguments[0]", made["id"])
+
+
+def pictures(page, tally, game, signs):
+    """On paper the empty board has its trees, and the filled one also its tents and bulbs."""
+    for is_filled in (False, True):
+        page.script("document.body.classList.toggle('filled', arguments[0])", is_filled)
+        pdf = base64.b64decode(page.send("WebDriver:Print", {"page": {"width": 21.0, "height": 29.7}}))
+        sheets = paper.drawn(pdf)
+        for sign in "T^O":
+            seen = sum(paper.spots(sheet, paper.COLOURS[sign]) for sheet in sheets)
+            wanted = signs.count(sign) if is_filled or sign == "T" else 0
+            tally.same(f"Firefox, {game}: {sign} on paper, filled {is_filled}", seen, wanted)
+    page.script("document.body.classList.remove('filled')")

@@ -117,7 +117,7 @@ def quickly(page, _, tally):
 
 def refused_links(page, _, tally):
     """A refused link says why, and there is a board."""
-    for link, said in [("solo/2x2:5o", "This ID is refused: number range at 4."),
+    for link, said in [("solo/2x2:5o", "This ID is refused: the marked number is too small or too large."),
                        ("sudoku/3x3:a", "This link names no game that is here."),
                        ("constructor/3x3:a", "This link names no game that is here."),
                        ("tents/2x2#12", "it is a seed of another program"),

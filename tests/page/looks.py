@@ -158,8 +158,8 @@ def forced(page, tally, made):
 
 
 def paper(page, tally, made):
-    """On paper: name and ID, a board as wide as the paper, one page also of 60 by 60, and nothing but the puzzle."""
-    for game, text in [*made.items(), ("pattern", LONG)]:
+    """On paper: name and ID, a board as wide as the paper, and nothing but the puzzle."""
+    for game, text in made.items():
         page.open(game, text)
         made_pdf = page.driver.execute_cdp_cmd("Page.printToPDF", {"paperWidth": 8.27, "paperHeight": 11.69})
         pdf = base64.b64decode(made_pdf["data"])

@@ -200,13 +200,14 @@ def crossed_off(page, _, tally):
 
 
 def mistakes(page, _, tally):
-    """Which cells are wrong, however little is filled in; a dot is wrong too; notes aren't."""
+    """Which cells are wrong, however little is filled in; a dot is wrong too, and notes that lack the number."""
     page.open("solo", SOLO)
     page.cells()[1].click()
     page.keys("4", Keys.ARROW_RIGHT, "3", Keys.ARROW_DOWN)
     page.keys("2", held=[Keys.SHIFT])
     tally.true("a wrong number", page.answer("#check").startswith("One cell is wrong."))
-    tally.same("a wrong number: the cell", page.marked(), [1])
+    tally.same("a wrong number, and notes", (page.having("wrong"), page.having("wrongNote")), ([1], [6]))
+    page.click("#undo")
     page.click("#undo")
     page.cells()[1].click()
     page.keys("2")

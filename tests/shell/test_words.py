@@ -1,4 +1,4 @@
-"""The manual page and the completions, put where README.md says."""
+"""The manual page and the completions, put where docs/USE.md says."""
 import re
 import shutil
 
@@ -31,10 +31,10 @@ _completion_loader puzzles; [ $? = 124 ] && _puzzles && printf '%s\n' "${COMPREP
 
 
 def installed(bench):
-    """Runs README's lines of installing, all but the program's own, in a home of its own."""
-    lines = [line for line in re.findall(r"^\$ (.*(?:\n> .*)*)", (TOP / "README.md").read_text(), re.M)
+    """Runs the lines of installing of docs/USE.md, all but the program's own, in a home of its own."""
+    lines = [line for line in re.findall(r"^\$ (.*(?:\n> .*)*)", (TOP / "docs" / "USE.md").read_text(), re.M)
              if re.search(r"completions|puzzles\.1|zshrc", line)]
-    assert len(lines) >= 2, f"{len(lines)} lines of README install the manual page and completions"
+    assert len(lines) >= 2, f"{len(lines)} lines of docs/USE.md install the manual page and completions"
     (bench.folder / ".local" / "bin").mkdir(parents=True, exist_ok=True)
     shutil.copy(bench.program, bench.folder / ".local" / "bin" / "puzzles")
     for line in lines:

@@ -173,8 +173,8 @@ def examples():
 def stale(path):
     """The names in a document that are nowhere, but for those that are told of other ways."""
     code = [file for place in ("src/**/*.rt", "specs/*.antt", "proofs/*.antt") for file in TOP.glob(f"crates/*/{place}")]
-    places = [*code, *(place for depth in ("*", "*/*", "crates/*/*") for place in TOP.glob(depth))]
-    texts = [file.read_text() for file in [*code, TOP / "README.md", TOP / "docs" / "FORMATS.md"]]
+    places = [*code, *(place for depth in ("*", "*/*", "crates/*/*", "tests/*/*") for place in TOP.glob(depth))]
+    texts = [file.read_text() for file in [*code, *(TOP / name for name in ("README.md", "docs/CONTRIBUTING.md", "docs/FORMATS.md"))]]
     known = {name for place in places for part in place.relative_to(TOP).parts for name in (part, pathlib.Path(part).stem)}
     known.update(word for text in texts for word in NAME.findall(text))
     tells = True

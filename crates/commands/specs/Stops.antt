@@ -12,17 +12,17 @@ use Rattle.commands.specs.declared.ends.Sink as sinks
 use Rattle.commands.specs.declared.ends.Source as sources
 
 -- the cause is a failing end, and not want of memory
-abbrev pub is_broken : Stop → Bool
-is_broken Memory = false
-is_broken Broken = true
+abbrev pub is_broken_end : Stop → Bool
+is_broken_end Memory = false
+is_broken_end Broken = true
 
 -- How a step that stopped leaves the ends: for a failing end one is broken, and for want of memory
 -- none has failed.
 pub record StopsWith {I : Type 0} (source : sources.Ghosts I) (stop : Stop) (input : I)
     (output_failed : Bool) : Type 0 where
-  pub memory : is_broken stop ≡ false
+  pub memory : is_broken_end stop ≡ false
       → (source.has_failed input ≡ false) × (output_failed ≡ false)
-  pub cause : is_broken stop ≡ true → IsEndBroken source input output_failed
+  pub cause : is_broken_end stop ≡ true → IsEndBroken source input output_failed
 
 -- the status that was found, or that of the stop
 abbrev pub status_in : Result Status Stop → ℕ

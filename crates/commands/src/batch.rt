@@ -4,7 +4,7 @@ ghost use Rattle.commands.specs.Answers.{PutBegun, Text, IsGreater};
 ghost use Rattle.commands.specs.Batches.{EndsIn, EndsWith, GathersAll, GathersOn, GathersUpTo, BatchGoesOn, StopsIn, StopsReading, TakesTask, AllowsTask, Holds, IsInputLine, RanLines, unput};
 ghost use Rattle.commands.specs.Replies.{answer_in};
 ghost use Rattle.commands.specs.Runs.{AreNew, call_limit};
-ghost use Rattle.commands.specs.Stops.{LeavesEnds, StopsWith, is_broken};
+ghost use Rattle.commands.specs.Stops.{LeavesEnds, StopsWith, is_broken_end};
 ghost use Rattle.commands.specs.declared.answers.status.Status.TheVariants.{Fine};
 
 use crate::answers::reply::{Reply, id_refused};
@@ -85,7 +85,7 @@ impl Batch {
         ensures status { self.new.status ≡ self.old.status }
         ensures begun { OnErr result (PutBegun O.takes output.old (unput self.old) output.new) }
         ensures cause { IfErr result (λ e. (O.has_failed output.new ≡ true)
-            × (is_broken e ≡ true)) }
+            × (is_broken_end e ≡ true)) }
     {
         put_all(output, &self.answers)?;
         self.answers.clear();
@@ -145,7 +145,7 @@ impl Batch {
         ensures none { OnOk result (unput self.new ≡ []) }
         ensures stopped { OnErr result
             (StopsIn O.takes task self.old chunk.now output.old output.new) }
-        ensures cause { IfErr result (λ e. O.has_failed output.new ≡ is_broken e) }
+        ensures cause { IfErr result (λ e. O.has_failed output.new ≡ is_broken_end e) }
     {
         let taken = self.take_bytes(alloc, task, chunk);
         self.put_answers(output)?;
@@ -179,7 +179,7 @@ impl Batch {
         ensures whole { OnOk result
             (EndsWith O.takes task self.old self.new.status output.old output.new) }
         ensures begun { OnErr result (EndsIn O.takes task self.old output.old output.new) }
-        ensures cause { IfErr result (λ e. O.has_failed output.new ≡ is_broken e) }
+        ensures cause { IfErr result (λ e. O.has_failed output.new ≡ is_broken_end e) }
     {
         self.answer_rest(alloc, task)?;
         self.put_answers(output)

@@ -1,4 +1,4 @@
-//! `check`: the grid that the input gives, against a puzzle.
+//! The command `check`: the grid that the input gives, against a puzzle.
 ghost use Rattle.std.specs.Prelude.{true, IfOk};
 ghost use Rattle.commands.specs.Allowed.{AllowsCheck, is_read, is_spelled};
 ghost use Rattle.commands.specs.CheckAnswers.{AllowsGrid, AllowsRead};

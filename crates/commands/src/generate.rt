@@ -1,4 +1,4 @@
-//! The answers of `generate`.
+//! The command `generate`: a puzzle of the seed, and the answer that hands it out.
 ghost use Rattle.std.specs.Prelude.{◌≡◌, IfOk, string_bytes};
 ghost use Rattle.commands.specs.Games.{game_of};
 ghost use Rattle.commands.specs.Allowed.{AllowsMade};

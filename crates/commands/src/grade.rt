@@ -1,4 +1,4 @@
-//! The answers of `grade`.
+//! The command `grade`: the rule sets in turn, then a search; its answer, with a trace if one is asked for.
 ghost use Rattle.std.specs.Prelude.{◌≡◌, ◌++◌, false, IfErr, IfOk, IfSome, None, OnErr, OnOk, codes, string_bytes};
 ghost use Rattle.commands.specs.Common.{needs_of, FitsIn, is_settled};
 ghost use Rattle.commands.specs.Games.{game_of};
@@ -6,7 +6,7 @@ ghost use Rattle.commands.specs.Grades.{SaysGrade, grade_status, grade_text, onl
 ghost use Rattle.commands.specs.Allowed.{Grades, GradesId, IsGraded};
 ghost use Rattle.commands.specs.Answers.{code_of};
 ghost use Rattle.commands.specs.PuzzleFacts.{Accepts};
-ghost use Rattle.commands.specs.Stops.{LeavesSink, Says, Writes, is_broken};
+ghost use Rattle.commands.specs.Stops.{LeavesSink, Says, Writes, is_broken_end};
 ghost use Rattle.commands.specs.TracePieces.{AreAllNamed, BeginsTrace, HasClosedStart, PutsTrace, SaysFirst};
 
 pub mod grading;
@@ -137,7 +137,7 @@ impl Attempt {
         ensures begun { OnErr result (BeginsTrace O.takes self.options.traced
             (P.game.visit_name puzzle.now) (R.system rules.now)
             output.old (string_bytes text.old) output.new) }
-        ensures failed { IfErr result (λ stop. O.has_failed output.new ≡ is_broken stop) }
+        ensures failed { IfErr result (λ stop. O.has_failed output.new ≡ is_broken_end stop) }
     {
         if !self.options.traced {
             return Ok(());

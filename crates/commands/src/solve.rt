@@ -1,4 +1,4 @@
-//! The answers of `solve`.
+//! The command `solve` of one ID: the verdict of a search, and its answer.
 ghost use Rattle.std.specs.Prelude.{◌≡◌, IfOk};
 ghost use Rattle.gameid_core.specs.TentsText.{cells_in};
 ghost use Rattle.commands.specs.Common.{FitsIn, needs_of};

@@ -1,7 +1,7 @@
 //! Worked examples of closings of Solo.
 
 use crate::rules::solo;
-use engine_core::{Closing, RuleSet, Searchable, Store};
+use engine_core::{Closing, Noted, Searchable, Store};
 use gameid_core::SoloPuzzle;
 use solo_core::{Crossings, Singles, SoloFillings};
 use std::alloc::{AllocError, Global};
@@ -23,7 +23,7 @@ fn left_by<R: Searchable>(alloc: Global, rules: &R, place: usize) -> Result<u32,
 }
 
 /// The same of the puzzle with the ID.
-fn left<S: RuleSet<Puzzle = SoloPuzzle>>(
+fn left<S: Noted<Puzzle = SoloPuzzle>>(
     alloc: Global,
     id: &str,
     place: usize,

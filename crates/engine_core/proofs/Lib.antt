@@ -8,6 +8,7 @@ pub mod ListLemmas
 pub mod SweepLemmas
 pub mod JudgeLemmas
 pub mod TrailLemmas
+pub mod NotesLemmas
 pub mod HouseLemmas
 pub mod WalkLemmas
 pub mod SearchLemmas

@@ -18,6 +18,7 @@ pub use Rattle.engine_core.specs.Keeping.{AreHeadSets, AreSets, AreSetsOf, HasSe
 pub use Rattle.engine_core.specs.HouseList.{AreScopesOf, listed_visits, table_of}
 pub use Rattle.engine_core.specs.Mode.{is_queue}
 pub use Rattle.engine_core.specs.Needs.{needs_in}
+pub use Rattle.engine_core.specs.Notes.{AreToStrike, HasOnly, IsKeptAt, IsMarkedOut, KeepsOnly, SameBut}
 pub use Rattle.engine_core.specs.Position.{IsClosedAround, IsClosedBut, IsFull, IsOnward, IsReturned, IsTaken, IsTakenTo, Room, Standing, is_solved, most_changes, own_grid}
 pub use Rattle.engine_core.specs.Queue.{IsQueuedAround, IsRested, is_dead_in}
 unfoldable pub use Rattle.engine_core.specs.Queue.{but}
@@ -26,9 +27,9 @@ unfoldable pub use Rattle.engine_core.specs.RuleSystem.{after, has_place, longes
 pub use Rattle.engine_core.specs.Sets.{IsBitsOf, has_bit}
 unfoldable pub use Rattle.engine_core.specs.Sets.{set_of_bits}
 pub use Rattle.engine_core.specs.Stored.{IsClosingOf, IsAnswerOf, IsUnsearched, Stored, is_settled, sizes_of}
-pub use Rattle.engine_core.specs.Trail.{KeepsChanges, IsTrailBack, IsTrailLonger, IsHouseStruck, IsTrail, Trail, back_at, change_at}
+pub use Rattle.engine_core.specs.Trail.{AreKeptOutside, AreRising, KeepsChanges, IsTrailBack, IsTrailLonger, IsHouseStruck, IsTrail, Trail, back_at, change_at}
 unfoldable pub use Rattle.engine_core.specs.Trail.{left_by}
-pub use Rattle.engine_core.specs.Trail.{AreHousesRested, AreRestedBut, AreWokenSince, GoesOn, IsAlong, IsPlaced, IsPlainPlaced, IsStep, IsTrailUnderWay, Placed, board_in, standing_of}
+pub use Rattle.engine_core.specs.Trail.{AreHousesRested, AreRestedBut, AreWokenSince, GoesOn, IsAlong, IsPlaced, IsPlainPlaced, IsStep, IsTrailUnderWay, Placed, board_in, no_notes, standing_of}
 pub use Rattle.engine_core.specs.Verdict.{HasTwo, IsTrueOf, Solves, said_by_counts, spent_by_counts, spent_of, tried_of, verdict_of}
 unfoldable pub use Rattle.engine_core.specs.Verdict.{outcome, spent, trials_in, tried}
 pub use Rattle.engine_core.specs.Sets.{AreWokenAt, words_of}

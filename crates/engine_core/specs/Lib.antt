@@ -21,6 +21,7 @@ pub mod Verdict
 pub mod Counts
 pub mod Frames
 pub mod Trail
+pub mod Notes
 pub mod Needs
 pub mod Position
 pub mod PositionLaws

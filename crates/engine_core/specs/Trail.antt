@@ -84,41 +84,55 @@ pub record IsHouseStruck (p : RuleSystem) (h : ℕ) (from to : Trail) : Type 0 w
   pub alive : IsAlive p (has to.board)
   pub lost : AreLost p h (length (p.scope h)) from to
 
+-- the numbers rise, and are below n
+pub record AreRising (n : ℕ) (list : List ℕ) : Type 0 where
+  pub within : (t : ℕ) → t < length list → slice_index list t < n
+  pub rising : (t u : ℕ) → t < u → u < length list → slice_index list t < slice_index list u
+
+-- a visit of h strikes nothing from its cells that the list doesn't number
+abbrev pub AreKeptOutside : RuleSystem → ℕ → Candidates → List ℕ → Type 0
+AreKeptOutside p h K list = (k v : ℕ) → k < length (p.scope h)
+    → ((t : ℕ) → t < length list → slice_index list t ≡ k → ⊥)
+    → after p h K (slice_index (p.scope h) k) v ≡ K (slice_index (p.scope h) k) v
+
 -- A board with its trail as a position.
 
--- what the memory was taken for, the board with its trail, and which houses wait
-pub record Placed : Type 0 where
+-- what the memory was taken for, the board with its trail, which houses wait, and what is noted beside the board
+pub record Placed (N : Type 0) : Type 0 where
   pub made : Needs
   pub trail : Trail
   pub waits : List ℕ
+  pub notes : N
 
 -- the lists are as long as that wants, and the board is as large
-pub record IsPlaced (made : Needs) (board : Layout) (sets kept waits first : List ℕ)
-    : Type 0 where
+pub record IsPlaced (made : Needs) (board : Layout) (waits first : List ℕ) : Type 0 where
   pub board_cells : cells_of board ≡ made.cells
   pub board_values : board.values ≡ made.values
-  pub sets_long : length sets ≡ made.scope
-  pub kept_long : length kept ≡ made.scope
   pub waits_long : length waits ≡ words_of made.houses
   pub first_long : length first ≡ words_of made.houses
   pub few_turns : made.bound < 18446744073709551616
 
--- the same of a board that is closed by plain visits
+-- the same of a board that is closed by plain visits: nothing is noted
 pub record IsPlainPlaced (made : Needs) (board : Layout) : Type 0 where
   pub board_cells : cells_of board ≡ made.cells
   pub board_values : board.values ≡ made.values
 
-abbrev pub board_in : Placed → Candidates
+abbrev pub no_notes : Candidates → Unit {0} → Type 0
+no_notes K notes = Unit {0}
+
+abbrev pub board_in : {N : Type 0} → Placed N → Candidates
 board_in s = has s.trail.board
 
--- the memory is enough for the rules, and the board is one of theirs
-pub record IsAlong (p : RuleSystem) (s : Placed) : Type 0 where
+-- the memory is enough for the rules, the board is one of theirs, and what is noted is true of it
+pub record IsAlong {N : Type 0} (are_true : Candidates → N → Type 0) (p : RuleSystem) (s : Placed N)
+    : Type 0 where
   pub fits : FitsIn (needs_of p) s.made
   pub board_of : IsBoardOf p s.trail.board
+  pub noted : are_true (board_in s) s.notes
 
 -- ---- which houses wait
 -- a house that does not wait strikes nothing
-abbrev pub AreHousesRested : RuleSystem → Placed → Type 0
+abbrev pub AreHousesRested : {N : Type 0} → RuleSystem → Placed N → Type 0
 AreHousesRested p s = IsRested p (board_in s) (is_waiting s.waits)
 
 -- the same of each board that was closed before the cell of that place lost values, if one is named
@@ -131,22 +145,23 @@ AreWokenSince p t from old new = AreWoken p (is_since p t from t.len) (is_waitin
 
 -- ---- from one place to a later one
 -- values were struck and noted
-pub record GoesOn (from to : Placed) : Type 0 where
+pub record GoesOn {N : Type 0} (from to : Placed N) : Type 0 where
   pub made : to.made ≡ from.made
   pub further : IsTrailLonger from.trail to.trail
 
 -- a visit of h that leaves each cell a value was made, and its houses wait; or it would leave a cell without one
-abbrev pub IsStep : RuleSystem → ℕ → Placed → Placed → Bool → Type 0
+abbrev pub IsStep : {N : Type 0} → RuleSystem → ℕ → Placed N → Placed N → Bool → Type 0
 IsStep p h from to true = IsDeadAfter p h (board_in from)
 IsStep p h from to false =
     (board_in to ≡ after p h (board_in from)) × IsAlive p (board_in to)
     × IsWoken p h (board_in from) (board_in to) (is_waiting from.waits) (is_waiting to.waits)
 
 -- ---- what a walk sees of it
-abbrev pub standing_of : Placed → Standing
+abbrev pub standing_of : {N : Type 0} → Placed N → Standing
 standing_of s = record { board = board_in s; len = s.trail.len; back = back_at s.trail }
 
 -- a walk is under way, inside the start
-pub record IsTrailUnderWay (p : RuleSystem) (s : Placed) : Type 0 where
-  pub along : IsAlong p s
+pub record IsTrailUnderWay {N : Type 0} (are_true : Candidates → N → Type 0) (p : RuleSystem)
+    (s : Placed N) : Type 0 where
+  pub along : IsAlong are_true p s
   pub inside : IsInside (board_in s) p.start

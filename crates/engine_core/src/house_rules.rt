@@ -8,6 +8,7 @@ ghost use Rattle.engine_core.specs.declared.mode.Mode.TheVariants.{Queue};
 use crate::houses::table::{HouseTable, join_marks};
 use crate::houses::visit::{apply, gather};
 use crate::mode::Mode;
+use crate::notes::Noted;
 use crate::rule_set::{RuleParts, RuleSet};
 use crate::rules::Rules;
 use crate::search::position::Searchable;
@@ -101,8 +102,15 @@ impl<S: RuleSet> HouseRules<S> {
         self.filter(house, board, sets, kept, work) && apply(board, places, &kept[..places.len()])
     }
 
+    /// What decides a visit of a house.
+    pub fn set(&self) -> &S
+        ensures { result.now ≡ self.now.set }
+    {
+        &self.set
+    }
+
     /// The places of the house.
-    pub(crate) fn places(&self, house: usize) -> &[u32]
+    pub fn places(&self, house: usize) -> &[u32]
         requires { house < (S.system (S.puzzle_of self.now.set)).houses }
         ensures { result.now ≡ (S.system (S.puzzle_of self.now.set)).scope house }
     {
@@ -206,6 +214,6 @@ impl<S: RuleSet> Rules for HouseRules<S> {
     }
 }
 
-impl<S: RuleSet> Searchable for HouseRules<S> {
+impl<S: Noted> Searchable for HouseRules<S> {
     type Position = TrailPosition<S>;
 }

@@ -2,6 +2,7 @@
 //! rules.
 
 pub(crate) mod cells;
+pub(crate) mod noting;
 pub(crate) mod plain;
 pub(crate) mod position;
 pub(crate) mod trailed;

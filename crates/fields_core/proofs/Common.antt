@@ -80,7 +80,7 @@ pub use Rattle.fields_core.specs.LightRuns.{asks, lonely}
 pub use Rattle.fields_core.specs.LightPlanes.{ArePlanesOf}
 pub use Rattle.fields_core.specs.LightRunLines.{AreAround, AreRunsOf, IsClash, IsRunOf, column_runs_of_column}
 pub use Rattle.fields_core.specs.LightRuns.{AreWordsFilled, AreWordsWritten, IsRunAt}
-pub use Rattle.fields_core.specs.LightRuns.{IsAround, IsLatest, begins_at, line_cells, line_white, run_house}
+pub use Rattle.fields_core.specs.LightRuns.{IsAround, IsLatest, begins_at, cells_along, line_white, run_house}
 pub use Rattle.fields_core.specs.LightRuns.{RunsBack, RunsOn, SeesAlong, ShinesAlong}
 pub use Rattle.fields_core.specs.LightSolutions.{AreJoined, IsFromTo, IsLightSolution, Sees, SeesBulb, light_column, light_row}
 pub use Rattle.fields_core.specs.LightWaits.{AreColumnsParted, AreIdleBut, AreLightsReady, AreLightsRested, AreLightsWoken, AreParted, AreSafe}
@@ -104,7 +104,7 @@ pub use Rattle.fields_core.specs.TentTrees.{squares_of_row, two_rows}
 pub use Rattle.fields_core.specs.TentTouching.{HasTouching, IsTentAmong, IsWindow}
 pub use Rattle.fields_core.specs.TentTrees.{AreBare, IsNear, trees_of_row}
 unfoldable pub use Rattle.fields_core.specs.TentTrees.{is_beside, wants_tent}
-pub use Rattle.fields_core.specs.TentWaits.{AreTentsRested, AreTentsWoken, AreVisitedOrDoomed, all_of_kind, kind_houses, kind_lines, later_kinds, waiting}
+pub use Rattle.fields_core.specs.TentWaits.{AreTentsRested, AreTentsWoken, AreVisitedOrDoomed, all_of_kind, kind_houses, kind_lines, later_kinds, waits_of}
 pub use Rattle.fields_core.specs.Tents.{are_near, leaves_none_out, names_none_twice, tent, tent_cells, tree, trees_beside}
 unfoldable pub use Rattle.fields_core.specs.Tents.{can_be_paired, column_right, row_right, solves_tents, touch_right, touches, tree_right}
 pub use Rattle.fields_core.specs.Visits.{AreIdle, AreVisited}

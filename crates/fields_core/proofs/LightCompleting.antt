@@ -1,5 +1,5 @@
 -- Light Up: names of houses, lonely numbers, and grids that meet each house.
-use Rattle.fields_core.proofs.Common.{AreMet, AreNamed, Black, Bool, CountHouse, HouseName, IsAround, IsGrid, IsLight, IsNext, Light, LightCell, LightHouse, List, None, Numbered, Option, Segment, Some, White, [], all_below-at, all_below-from, and_parts, any_below, any_below-here, any_below-none, any_below-some, ap, append-nil, ap₂, arith, asks, begins_column_run, begins_row_run, black_right, bulb, bulb_right, bulbs_beside, cases_Bool, cases_eq, cases_lt, column_house, column_run, common_steps, cond, count_by, count_by-le-length, count_house_of, eq-eqb, eqb, eqb-true, exactly, false, false_from_ne_true, filter, get_or, get_or_append_left, has_place, has_place-at, houses_below, inl, inr, is_some, is_white, leb-true, length, length-append, light_cells, light_counts, light_house, light_houses, line_cells, line_white, lit_house, lit_right, lonely, lt-ltb, ltb-true, map, meets_house, min, mod-lt, ne_eqb, no_count_house, nonzeros, not, not-true, number_house, number_right, one_at_least, one_at_most, or_cases, or_left, or_right, place-append, place-filter, place-front, places_in_segments, refl, row_house, row_run, run_house, seen_from, sees, sees_bulb, segment_places, slice_index, solves_lights, steps, suc, sym, true, true≢false, white, zero, ℕ, ◌%◌, ◌&&◌, ◌*◌, ◌++◌, ◌+◌, ◌-◌, ◌/◌, ◌<◌, ◌||◌, ◌∙◌, ◌∷◌, ◌≡◌, ◌≤◌}
+use Rattle.fields_core.proofs.Common.{AreMet, AreNamed, Black, Bool, CountHouse, HouseName, IsAround, IsGrid, IsLight, IsNext, Light, LightCell, LightHouse, List, None, Numbered, Option, Segment, Some, White, [], all_below-at, all_below-from, and_parts, any_below, any_below-here, any_below-none, any_below-some, ap, append-nil, ap₂, arith, asks, begins_column_run, begins_row_run, black_right, bulb, bulb_right, bulbs_beside, cases_Bool, cases_eq, cases_lt, column_house, column_run, common_steps, cond, count_by, count_by-le-length, count_house_of, eq-eqb, eqb, eqb-true, exactly, false, false_from_ne_true, filter, get_or, get_or_append_left, has_place, has_place-at, houses_below, inl, inr, is_some, is_white, leb-true, length, length-append, light_cells, light_counts, light_house, light_houses, cells_along, line_white, lit_house, lit_right, lonely, lt-ltb, ltb-true, map, meets_house, min, mod-lt, ne_eqb, no_count_house, nonzeros, not, not-true, number_house, number_right, one_at_least, one_at_most, or_cases, or_left, or_right, place-append, place-filter, place-front, places_in_segments, refl, row_house, row_run, run_house, seen_from, sees, sees_bulb, segment_places, slice_index, solves_lights, steps, suc, sym, true, true≢false, white, zero, ℕ, ◌%◌, ◌&&◌, ◌*◌, ◌++◌, ◌+◌, ◌-◌, ◌/◌, ◌<◌, ◌||◌, ◌∙◌, ◌∷◌, ◌≡◌, ◌≤◌}
 use Rattle.fields_core.proofs.LightHouseLaws.{bulb-in, column-self, lit-from, lit-parts, row-self, small-at, white-in}
 use Rattle.fields_core.proofs.RunLemmas.{column-house-is, lit-lines, row-house-is}
 use Rattle.fields_core.proofs.BesideLemmas.{row-in, whole-cell}
@@ -30,8 +30,8 @@ place-tells p Lit c lawful e = white-in p c lawful.count (told-if (white p c) _ 
 -- ---- the house of a white cell is that of three segments
 pub lit-told : (p : Light) (y : ℕ) {x : ℕ} (a b c none : Segment) {left right top end : ℕ} → x < p.size.w → white p (y * p.size.w + x) ≡ true
     → IsAround (line_white p (y * p.size.w) 1) p.size.w x left right → IsAround (line_white p x p.size.w) p.size.h y top end
-    → segment_places a ≡ line_cells (y * p.size.w) 1 left right → segment_places b ≡ line_cells x p.size.w top y
-    → segment_places c ≡ line_cells x p.size.w (y + 1) end → segment_places none ≡ []
+    → segment_places a ≡ cells_along (y * p.size.w) 1 left right → segment_places b ≡ cells_along x p.size.w top y
+    → segment_places c ≡ cells_along x p.size.w (y + 1) end → segment_places none ≡ []
     → lit_house p (y * p.size.w + x) ≡ one_at_least (places_in_segments (a ∷ b ∷ c ∷ none ∷ [])) ∷ []
 lit-told p y {x} a b c none {left} {right} {top} {end} lt on row column is_a is_b is_c is_none =
     let first : y * p.size.w + left * 1 ≡ y * p.size.w + left = omega arith in

@@ -1,5 +1,5 @@
 -- Tents on planes: what waits, and what a closing asks.
-use Rattle.fields_core.proofs.Common.{AllByRecursion, AreBare, AreIdle, AreLinesOf, ArePlanes, ArePlanesAlive, AreTentsRested, AreTentsWoken, AreTentsWritten, AreVisited, Bool, Candidates, Columns, CountHouse, HasBoard, IsClosed, IsClosedAround, IsClosedBut, IsFieldOf, IsFurther, IsHouse, IsInside, IsLostIn, IsSweep, IsTents, Layers, List, Option, Rows, Some, Squares, Tents, Touched, Trees, TentWaits, [], all_of, all_of_kind, and_parts, ap, append_assoc, arith, back_at, cases_Bool, cases_eq, cells_of, column_of_tents, column_places, common_steps, eqb, eqb-true, exactly, false, false_from_ne_true, free_beside, get_or, get_or-append_right, has, has_bit, houses_below, inl, inr, is_barred, kind_houses, kind_lines, length, length-append, lt-ltb, ltb, ltb-true, map, needs_of, no_count_house, not, one_at_least, one_at_most, or_cases, or_left, or_parts, place-filter, place-in, refl, row_of_tents, row_places, slice_index, solves_tents, square_house, squares_of_row, start_of, suc, sym, tent_cells, tent_counts, tent_houses, tent_rules, tree, tree_house, trees_of_row, true, true≢false, waiting, zero, ℕ, ◌%◌, ◌&&◌, ◌*◌, ◌++◌, ◌+◌, ◌-◌, ◌/◌, ◌<◌, ◌∙◌, ◌∷◌, ◌≡◌, ◌≤◌, ◌⊎◌}
+use Rattle.fields_core.proofs.Common.{AllByRecursion, AreBare, AreIdle, AreLinesOf, ArePlanes, ArePlanesAlive, AreTentsRested, AreTentsWoken, AreTentsWritten, AreVisited, Bool, Candidates, Columns, CountHouse, HasBoard, IsClosed, IsClosedAround, IsClosedBut, IsFieldOf, IsFurther, IsHouse, IsInside, IsLostIn, IsSweep, IsTents, Layers, List, Option, Rows, Some, Squares, Tents, Touched, Trees, TentWaits, [], all_of, all_of_kind, and_parts, ap, append_assoc, arith, back_at, cases_Bool, cases_eq, cells_of, column_of_tents, column_places, common_steps, eqb, eqb-true, exactly, false, false_from_ne_true, free_beside, get_or, get_or-append_right, has, has_bit, houses_below, inl, inr, is_barred, kind_houses, kind_lines, length, length-append, lt-ltb, ltb, ltb-true, map, needs_of, no_count_house, not, one_at_least, one_at_most, or_cases, or_left, or_parts, place-filter, place-in, refl, row_of_tents, row_places, slice_index, solves_tents, square_house, squares_of_row, start_of, suc, sym, tent_cells, tent_counts, tent_houses, tent_rules, tree, tree_house, trees_of_row, true, true≢false, waits_of, zero, ℕ, ◌%◌, ◌&&◌, ◌*◌, ◌++◌, ◌+◌, ◌-◌, ◌/◌, ◌<◌, ◌∙◌, ◌∷◌, ◌≡◌, ◌≤◌, ◌⊎◌}
 use Rattle.fields_core.specs.declared.planes.tents.waits.Kind.{Kind}
 use Rattle.fields_core.proofs.HouseOrder.{IsSingle, single-keeps, singles-kept}
 use Rattle.fields_core.proofs.VisitLemmas.{IsBinaryAlive}
@@ -71,7 +71,7 @@ minds Squares v = eqb v 0
 
 -- where houses that mind the value do not wait, none of them has the cell
 abbrev pub AreOff : {W : Type 0} → (W → ℕ) → Tents → TentWaits W → ℕ → ℕ → Type 0
-AreOff bits p now v c = (kind : Kind) (k : ℕ) → k < kind_lines p kind → has_bit (waiting bits now kind) k ≡ false → minds kind v ≡ true
+AreOff bits p now v c = (kind : Kind) (k : ℕ) → k < kind_lines p kind → has_bit (waits_of bits now kind) k ≡ false → minds kind v ≡ true
     → any_has (kind_houses p kind k) c ≡ false
 
 abbrev pub lines_of : {W : Type 0} → Touched W → Touched W → ℕ → Touched W
@@ -89,7 +89,7 @@ module _ {W : Type 0} (bits : W → ℕ) {room : ℕ} (p : Tents) {before now : 
       square on off (inr below) = true≢false (rw below at (sym on.1) ∙ (or_parts _ _ (or_parts _ _ (sym (woken.squares k) ∙ off)).1).1)
 
       by : (v : ℕ) → v < 2 → (kind : Kind) → AreLinesOf bits (lines_of zeros ones v) (c / p.size.w) (c % p.size.w) → k < kind_lines p kind
-          → has_bit (waiting bits now kind) k ≡ false → minds kind v ≡ true → any_has (kind_houses p kind k) c ≡ true → ⊥
+          → has_bit (waits_of bits now kind) k ≡ false → minds kind v ≡ true → any_has (kind_houses p kind k) c ≡ true → ⊥
       by zero small Columns on lt off mind has =
           true≢false (rw (column-lies p c pos lt has) at (sym on.0) ∙ (or_parts _ _ (or_parts _ _ (sym (woken.columns k) ∙ off)).1).0)
       by zero small Rows on lt off mind has = true≢false (rw (row-lies p c pos has) at (sym on.1) ∙ (or_parts _ _ (or_parts _ _ (sym (woken.rows k) ∙ off)).1).0)
@@ -103,7 +103,7 @@ module _ {W : Type 0} (bits : W → ℕ) {room : ℕ} (p : Tents) {before now : 
       by (suc (suc v)) small kind on lt off mind has = absurd (omega arith)
 
   -- what does not wait did not wait before
-  waited : (kind : Kind) (k : ℕ) → has_bit (waiting bits now kind) k ≡ false → has_bit (waiting bits before kind) k ≡ false
+  waited : (kind : Kind) (k : ℕ) → has_bit (waits_of bits now kind) k ≡ false → has_bit (waits_of bits before kind) k ≡ false
   waited Columns k off = (or_parts _ _ (sym (woken.columns k) ∙ off)).0
   waited Rows k off = (or_parts _ _ (sym (woken.rows k) ∙ off)).0
   waited Trees k off = (or_parts _ _ (sym (woken.trees k) ∙ off)).0
@@ -139,16 +139,16 @@ rested-board {bits} {room} {p} {before} {now} {zeros} {ones} {K} {L} lawful low 
     lines (suc zero) c small on gone = lost_one c on gone
     lines (suc (suc v)) c small on gone = absurd (omega arith)
 
-    far : (kind : Kind) (c v : ℕ) → k < kind_lines p kind → has_bit (waiting bits now kind) k ≡ false → minds kind v ≡ true
+    far : (kind : Kind) (c v : ℕ) → k < kind_lines p kind → has_bit (waits_of bits now kind) k ≡ false → minds kind v ≡ true
         → K c v ≡ true → L c v ≡ false → any_has (kind_houses p kind k) c ≡ false
     far kind c v lt off mind on gone =
         let small = full.low c v on in woken-off bits p pos low woken c small (lines v c small on gone) kind k lt off mind
 
-    kept : (kind : Kind) (v c : ℕ) → k < kind_lines p kind → has_bit (waiting bits now kind) k ≡ false → minds kind v ≡ true
+    kept : (kind : Kind) (v c : ℕ) → k < kind_lines p kind → has_bit (waits_of bits now kind) k ≡ false → minds kind v ≡ true
         → any_has (kind_houses p kind k) c ≡ true → L c v ≡ K c v
     kept kind v c lt off mind there = value-kept c v inside (λ on gone. true≢false (sym there ∙ far kind c v lt off mind on gone))
 
-    by : (kind : Kind) → k < kind_lines p kind → has_bit (waiting bits now kind) k ≡ false → AreIdle (kind_houses p kind k) K → AreIdle (kind_houses p kind k) L
+    by : (kind : Kind) → k < kind_lines p kind → has_bit (waits_of bits now kind) k ≡ false → AreIdle (kind_houses p kind k) K → AreIdle (kind_houses p kind k) L
     by Columns lt off idle = idle-far (column_of_tents p k) K L inside (λ c v. far Columns c v lt off refl) idle
     by Rows lt off idle = idle-far (row_of_tents p k) K L inside (λ c v. far Rows c v lt off refl) idle
     by Trees lt off idle = alls-kept (tent_cells p) (trees_of_row p k) K L (trees-each lawful lt) full still inside (λ c. kept Trees 1 c lt off refl) idle
@@ -250,7 +250,7 @@ field-further field further alive = grind (arith, common_steps, false_from_ne_tr
 
 -- ---- visits of the lines of a kind that wait
 pub kind-first : {W : Type 0} (bits : W → ℕ) (p : Tents) (kind : Kind) (waits : TentWaits W) {left : ℕ → Bool} {from : Layers} → ArePlanesAlive from
-    → AreTentsRested bits p waits (has from) → ((k : ℕ) → left k ≡ (has_bit (waiting bits waits kind) k && ltb k (kind_lines p kind)))
+    → AreTentsRested bits p waits (has from) → ((k : ℕ) → left k ≡ (has_bit (waits_of bits waits kind) k && ltb k (kind_lines p kind)))
     → AreLinesPassed (kind_houses p kind) (kind_lines p kind) left from from
 kind-first bits p kind waits alive rested is = grind (arith, common_steps, passed-first, ltb-true, and_parts, first-off, lt-ltb)
 

@@ -37,7 +37,7 @@ pub use Rattle.fields_core.specs.LightRuns.{asks, lonely}
 pub use Rattle.fields_core.specs.LightPlanes.{AreLightsWritten, ArePlanesOf, AreRowTables, AreTables, HasTables}
 pub use Rattle.fields_core.specs.LightRunLines.{AreAround, AreAroundAlong, AreRunsOf, AreRunsVisited, IsClash, ReachesAlong, ReachesMarked, word_along}
 pub use Rattle.fields_core.specs.LightRuns.{AreWordsFilled, AreRunsWritten, AreWordsWritten, IsFilledIn}
-pub use Rattle.fields_core.specs.LightRuns.{AddsRun, IsAround, IsLatest, IsLine, TellsRun, house_along, line_cells, whites_of}
+pub use Rattle.fields_core.specs.LightRuns.{AddsRun, IsAround, IsLatest, IsLine, TellsRun, house_along, cells_along, whites_of}
 pub use Rattle.fields_core.specs.LightRuns.{RunsOn, ShinesAlong, ShinesInLine}
 pub use Rattle.fields_core.specs.LightSolutions.{IsLightSolution}
 pub use Rattle.fields_core.specs.LightWaits.{AreAlwaysRested, AreColumnsPartedFrom, AreIdleBut, AreLightsReady, AreLightsRested, AreLightsWoken, AreLightsWokenSince, AreNumbersSettled, AreRunLines, AreSafe, AreSafeInColumns, AreThoseMet}
@@ -62,7 +62,7 @@ pub use Rattle.fields_core.specs.TentTrees.{squares_of_row}
 pub use Rattle.fields_core.specs.TentTouching.{HasTouching, IsTentAmong, IsWindow}
 pub use Rattle.fields_core.specs.TentTrees.{AreBare, AreBeside, AreTakenBeside, IsNear, trees_of_row}
 unfoldable pub use Rattle.fields_core.specs.TentTrees.{is_beside, wants_tent}
-pub use Rattle.fields_core.specs.TentWaits.{AreTentsRested, AreTentsSettled, AreTentsWoken, AreVisitedOrDoomed, AreWaitingLines, all_of_kind, kind_houses, kind_lines, waiting}
+pub use Rattle.fields_core.specs.TentWaits.{AreTentsRested, AreTentsSettled, AreTentsWoken, AreVisitedOrDoomed, AreWaitingLines, all_of_kind, kind_houses, kind_lines, waits_of}
 pub use Rattle.fields_core.specs.Tents.{tent, tent_cells, tree}
 unfoldable pub use Rattle.fields_core.specs.Tents.{can_be_paired, touches}
 pub use Rattle.fields_core.specs.Visits.{AreIdle, AreVisited}

@@ -43,8 +43,8 @@ abbrev pub whites_of : WhiteLine → ℕ → Bool
 whites_of line = line_white line.puzzle.now line.first line.stride
 
 -- its cells from one number to the one before another
-abbrev pub line_cells : ℕ → ℕ → ℕ → ℕ → List ℕ
-line_cells first stride from to =
+abbrev pub cells_along : ℕ → ℕ → ℕ → ℕ → List ℕ
+cells_along first stride from to =
     map (λ k. first + from * stride + k * stride) (range_with_len 0 (to - from))
 
 -- a run begins at a cell of a line: it is white, and the cell before it is black or past the edge

@@ -46,21 +46,21 @@ pub record AreVisitedOrDoomed (p : Tents) (kind : Kind) (houses : List CountHous
   pub dies : fills ≡ false → (others : List CountHouse)
       → AreVisited (houses ++ (others ++ later_kinds p kind)) from to false
 
-abbrev pub waiting : {W : Type 0} → (W → ℕ) → TentWaits W → Kind → ℕ
-waiting bits waits Columns = bits waits.columns
-waiting bits waits Rows = bits waits.rows
-waiting bits waits Trees = bits waits.trees
-waiting bits waits Squares = bits waits.squares
+abbrev pub waits_of : {W : Type 0} → (W → ℕ) → TentWaits W → Kind → ℕ
+waits_of bits waits Columns = bits waits.columns
+waits_of bits waits Rows = bits waits.rows
+waits_of bits waits Trees = bits waits.trees
+waits_of bits waits Squares = bits waits.squares
 
 -- the lines of a grid at which houses of the kind wait
 abbrev pub AreWaitingLines : {W : Type 0} → (W → ℕ) → Extent → TentWaits W → Kind → W → Type 0
 AreWaitingLines bits size waits kind lines = (p : Tents) → size ≡ p.size → (k : ℕ)
-    → has_bit (bits lines) k ≡ (has_bit (waiting bits waits kind) k && nat_lt k (kind_lines p kind))
+    → has_bit (bits lines) k ≡ (has_bit (waits_of bits waits kind) k && nat_lt k (kind_lines p kind))
 
 -- all houses that do not wait are idle
 abbrev pub AreTentsRested : {W : Type 0} → (W → ℕ) → Tents → TentWaits W → Candidates → Type 0
 AreTentsRested bits p waits K = (kind : Kind) (k : ℕ) → k < kind_lines p kind
-    → has_bit (waiting bits waits kind) k ≡ false → AreIdle (kind_houses p kind k) K
+    → has_bit (waits_of bits waits kind) k ≡ false → AreIdle (kind_houses p kind k) K
 
 -- where the houses of the kind are idle, they need not wait
 abbrev pub AreTentsSettled : {W : Type 0} → (W → ℕ) → Kind → TentWaits W → TentWaits W → Type 0

@@ -58,12 +58,12 @@ unfoldable pub light_puzzle_of : Extent → LightFilling → Light
 light_puzzle_of size filling = with_numbers (lights_of size filling.black) filling.bulbs
 
 -- the rules of a search of that puzzle
-abbrev pub rules_filled : Extent → LightFilling → RuleSystem
-rules_filled size filling = light_rules (light_puzzle_of size filling)
+abbrev pub light_rules_filled : Extent → LightFilling → RuleSystem
+light_rules_filled size filling = light_rules (light_puzzle_of size filling)
 
 -- a filling passes where the verdict of its puzzle is one
 abbrev pub light_passes : Extent → ℕ → LightFilling → Bool
-light_passes size budget filling = has_one (rules_filled size filling) budget
+light_passes size budget filling = has_one (light_rules_filled size filling) budget
 
 -- black cells and bulbs of so many cells; the bulbs solve its puzzle
 pub record IsLit (size : Extent) (filling : LightFilling) : Type 0 where

@@ -86,12 +86,12 @@ EachFilling P = (size : Extent) (s : Stream) (k : ℕ)
     → IsExtent size → HasWords s → P size (filling_at (tent_filling size) k s)
 
 -- the rules of a search of its puzzle
-abbrev pub rules_filled : Extent → TentFilling → RuleSystem
-rules_filled size filling = tent_rules (tents_puzzle_of size filling)
+abbrev pub tent_rules_filled : Extent → TentFilling → RuleSystem
+tent_rules_filled size filling = tent_rules (tents_puzzle_of size filling)
 
 -- a filling passes where the verdict of its puzzle is one
 abbrev pub tents_pass : Extent → ℕ → TentFilling → Bool
-tents_pass size budget filling = has_one (rules_filled size filling) budget
+tents_pass size budget filling = has_one (tent_rules_filled size filling) budget
 
 -- Which sizes a maker of Tents takes, and what it gives.
 

@@ -39,5 +39,5 @@ numbers_in (Short clue) = clue
 numbers_in (Long clue) = clue
 
 -- the puzzle of a size with these clues
-abbrev pub pattern_of : Extent → List LineClue → Pattern
-pattern_of size clues = record { size = size; clues = map numbers_in clues }
+abbrev pub pattern_with : Extent → List LineClue → Pattern
+pattern_with size clues = record { size = size; clues = map numbers_in clues }

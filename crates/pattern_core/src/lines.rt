@@ -34,13 +34,13 @@ pub struct PatternLines {
 
 impl Model for PatternLines {
     ghost use Rattle.gameid_core.specs.Puzzles.{IsPattern};
-    ghost use Rattle.pattern_core.specs.LineRules.{LawfulPattern, pattern_of};
+    ghost use Rattle.pattern_core.specs.LineRules.{LawfulPattern, pattern_with};
 
     ghost Value = { LawfulPattern };
 
-    ghost view = { λ r. record { pattern = pattern_of r.size r.clues.items; extent = r.extent } };
+    ghost view = { λ r. record { pattern = pattern_with r.size r.clues.items; extent = r.extent } };
 
-    ghost invariant = { λ r. IsPattern (pattern_of r.size r.clues.items) };
+    ghost invariant = { λ r. IsPattern (pattern_with r.size r.clues.items) };
 }
 
 impl PatternLines {

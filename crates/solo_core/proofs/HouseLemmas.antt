@@ -218,25 +218,34 @@ module _ (p : Solo) where
       ap (λ j. get_or (houses_of p) j d) is ∙ block-after (solo_n p + k) d
       ∙ part_later Block {n = solo_n p} diagonals {h = solo_n p + k} d (omega arith) ∙ ap (λ j. get_or diagonals j d) at
 
+  pub row-name : (y : ℕ) (d : NamedHouse) → y < solo_n p → get_or (houses_of p) y d ≡ Row y
+  row-name y d lt = part_first Row {n = solo_n p} columns {h = y} d lt
+
+  pub column-name : (x : ℕ) (d : NamedHouse) → x < solo_n p → get_or (houses_of p) (solo_n p + x) d ≡ Column x
+  column-name x d lt = column-after x d ∙ part_first Column {n = solo_n p} blocks {h = x} d lt
+
+  pub block-name : (b : ℕ) (d : NamedHouse) → b < solo_n p → get_or (houses_of p) (2 * solo_n p + b) d ≡ Block b
+  block-name b d lt = block-after b d ∙ part_first Block {n = solo_n p} diagonals {h = b} d lt
+
+  pub diagonal-name : (k : ℕ) (d : NamedHouse) → p.x ≡ true → k < 2 → get_or (houses_of p) (3 * solo_n p + k) d ≡ Diagonal k
+  diagonal-name k d is_x lt = diagonal-after k d ∙ diagonal_at p.x k d (rw is_x lt)
+
   places-at : (house : NamedHouse) (k : ℕ) → k < length (houses_of p) → get_or (houses_of p) k house ≡ house
       → places_of p house ≡ get_or (house_places p) k []
   places-at house k lt is = ap (places_of p) (sym is) ∙ sym (get_or-map _ _ k house [] lt)
 
   -- and their places
   pub row-listed : (y : ℕ) → y < solo_n p → places_of p (Row y) ≡ get_or (house_places p) y []
-  row-listed y lt = places-at (Row y) y (omega (arith, house_count p)) (part_first Row {n = solo_n p} columns {h = y} (Row y) lt)
+  row-listed y lt = places-at (Row y) y (omega (arith, house_count p)) (row-name y (Row y) lt)
 
   pub column-listed : (x : ℕ) → x < solo_n p → places_of p (Column x) ≡ get_or (house_places p) (solo_n p + x) []
-  column-listed x lt = places-at (Column x) (solo_n p + x) (omega (arith, house_count p))
-      (column-after x (Column x) ∙ part_first Column {n = solo_n p} blocks {h = x} (Column x) lt)
+  column-listed x lt = places-at (Column x) (solo_n p + x) (omega (arith, house_count p)) (column-name x (Column x) lt)
 
   pub block-listed : (b : ℕ) → b < solo_n p → places_of p (Block b) ≡ get_or (house_places p) (2 * solo_n p + b) []
-  block-listed b lt = places-at (Block b) (2 * solo_n p + b) (omega (arith, house_count p))
-      (block-after b (Block b) ∙ part_first Block {n = solo_n p} diagonals {h = b} (Block b) lt)
+  block-listed b lt = places-at (Block b) (2 * solo_n p + b) (omega (arith, house_count p)) (block-name b (Block b) lt)
 
   pub diagonal-listed : {h : ℕ} (d : ℕ) → h ≡ 3 * solo_n p + d → p.x ≡ true → d < 2 → places_of p (Diagonal d) ≡ get_or (house_places p) h []
-  diagonal-listed d is is_x lt = rw is (places-at (Diagonal d) (3 * solo_n p + d) (omega (arith, count_x p is_x))
-      (diagonal-after d (Diagonal d) ∙ diagonal_at p.x d (Diagonal d) (rw is_x lt)))
+  diagonal-listed d is is_x lt = rw is (places-at (Diagonal d) (3 * solo_n p + d) (omega (arith, count_x p is_x)) (diagonal-name d (Diagonal d) is_x lt))
 
 -- A grid inside the start from which no house strikes anything is a solution.
 module _ (p : Solo) (ok : IsSolo p) {g : List ℕ} (grid : IsClosedGrid (houses_rules p) g) where

@@ -8,6 +8,8 @@ use Rattle.solo_core.proofs.PeelLemmas.{lone-counts, counts-none, counts-more, p
 use Rattle.solo_core.proofs.MateLemmas.{goes_on_free, begun-none, goes_on_swapped}
 use Rattle.solo_core.proofs.WayLemmas.{over_none, over_next}
 use Rattle.solo_core.proofs.BitLemmas.{bits_joined, single_bit}
+use Rattle.solo_core.proofs.NoteLemmas.{room-made}
+use Rattle.solo_core.proofs.SpotLemmas.{spot-1, spot-2, spot-3, spot-4}
 use Rattle.solo_core.proofs.TurnLemmas.{after-root, before-root, all_inside, after-step, before-step}
 
 pub ruleset check_laws = (given_first, len_of, number_at, seen_none, seen_more, seen_again, seen_all, fine_more)
@@ -50,7 +52,13 @@ pub ruleset reach_laws = (over_none, over_next)
 
 pub ruleset numbers_laws = (column_in, first-at, second-at, scopes-length, row_in, house-named, crossing-after, all-length)
 
+pub ruleset notes_laws = (room-made)
+
+pub ruleset open_laws = (both-bits, either-bits, zero-bits)
+
 pub ruleset settle_laws = (both-bits, either-bits, zero-bits)
+
+pub ruleset spots_laws = (spot-1, spot-2, spot-3, spot-4)
 
 pub ruleset start_laws = (started, started-none, started-all, started-blank, started-given, started-there)
 

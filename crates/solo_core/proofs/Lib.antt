@@ -9,6 +9,11 @@ pub mod SinglesLemmas
 mod PeelLemmas
 mod NarrowLemmas
 mod SettledLemmas
+mod OpenLemmas
+mod OpenBoardLemmas
+mod SpotLemmas
+mod NoteLemmas
+mod OpenVisitLemmas
 mod MateLemmas
 mod CrossingLemmas
 pub mod LawSets

@@ -110,6 +110,14 @@ module _ (c r b : ℕ) (c_pos : 0 < c) (r_pos : 0 < r) (b_in : b < c * r) where
       let wide_is = mod-mul-add (y % c) r (x % r) low in
       rw (band_is, stack_is, tall_is, wide_is, div-add-mod' y c, div-add-mod' x r) (div-add-mod' place (c * r))
 
+  -- a cell of the block stands in it by its row and its column there
+  pub block-holds : (place : ℕ) → place / (c * r) / c * c + place % (c * r) / r ≡ b
+      → slice_index (block_places c r b) (place / (c * r) % c * r + place % (c * r) % r) ≡ place
+  unfolding block_at index_at
+  block-holds place e =
+      let k = place / (c * r) % c * r + place % (c * r) % r in
+      get_or-map-range_with_len _ 0 (c * r) k k 0 (index_below place) (omega arith) ∙ covered e
+
   block_lists : Lists (block_places c r b) (c * r) ((c * r) * (c * r)) (λ place. eqb (block_at place) b)
   block_lists = by_function _ index_at (λ k l. block-within c r b k b_in l)
       (λ k l. eq-eqb _ b (in_block k l)) (λ k l. at_index k l) (λ place l. index_below place)

@@ -16,5 +16,8 @@ pub mod Faults
 pub mod Bits
 pub mod Ways
 pub mod PeeledHouses
+pub mod OpenHouses
+pub mod OpenBoards
+pub mod OpenLaws
 pub mod QuickPairings
 pub mod Work

@@ -13,11 +13,12 @@ use crate::check::check_solo;
 use crate::houses::crossings::{crossings, push_crossings};
 use crate::houses::lists::list_houses;
 use crate::houses::places::{cells, houses};
+use crate::notes::{CrossingNotes, OpenNotes};
 use crate::start::write_start;
 use crate::visits::crossing::keep_crossed;
 use crate::visits::houses::keep_houses;
 use crate::visits::singles::keep_singles;
-use engine_core::{HouseRules, RuleParts, RuleSet};
+use engine_core::{HouseRules, Noted, PlainNotes, RuleParts, RuleSet};
 use gameid_core::SoloPuzzle;
 use grid_core::{Board, Grid, Pairing};
 use std::alloc::{AllocError, Global};
@@ -42,7 +43,7 @@ pub struct Singles {
 /// Strikes what no filling of the house without repeat allows.
 #[derive(Drop)]
 pub struct SoloFillings {
-    puzzle: SoloPuzzle,
+    pub(crate) puzzle: SoloPuzzle,
     ghost is_solo: { IsSolo puzzle } by { Prim.hlevel props },
 }
 
@@ -249,4 +250,16 @@ impl RuleSet for Crossings {
     fn accept(&self, _pairing: &mut Pairing, grid: &Grid) -> bool {
         check_solo(&self.puzzle, grid).is_none()
     }
+}
+
+impl Noted for Crossings {
+    type Notes = CrossingNotes;
+}
+
+impl Noted for Singles {
+    type Notes = PlainNotes;
+}
+
+impl Noted for SoloFillings {
+    type Notes = OpenNotes;
 }

@@ -46,9 +46,22 @@ export function chains(rules, cans) {
     }
   }
   if (!best) return undefined;
-  const cells = [...new Set(best.chain.map(cellOf))];
-  const told = (at) => ({ cell: cellOf(at), number: valueOf(at) });
-  return step(cells, { kind: "chain", chain: best.chain.map(told), struck: best.struck.map(told) }, best.struck, best.rests);
+  return told(rules, best);
+}
+
+// A chain as a step. Where a link can be seen in several ways, `choices` has them, and `choose` makes the step of some.
+function told(rules, { chain, struck, choices }) {
+  const cells = [...new Set(chain.map(cellOf))], named = (at) => ({ cell: cellOf(at), number: valueOf(at) });
+  const both = (a, b) => rules.housesOf[a].filter(({ cells: own }) => own.includes(b)).map(({ name: [kind] }) => kind);
+  const via = (at, k) => (k && k % 2 === 0 ? both(cellOf(chain[k - 1]), cellOf(at)) : []); // what the two share
+  const strikes = new Set(struck);
+  const choose = (ways) => {
+    const links = chain.map((at, k) => ({ ...named(at), by: k % 2 ? ways[(k - 1) / 2].by : undefined, via: via(at, k) }));
+    const why = { kind: "chain", chain: links, struck: struck.map(named) };
+    const made = step(cells, why, struck, ways.flatMap(({ rests }) => rests));
+    return { ...made, strikes, choices, choose };
+  };
+  return choose(choices.map(([first]) => first));
 }
 
 class Links {
@@ -67,7 +80,8 @@ class Links {
     return this.weakOf.get(at);
   }
 
-  // The candidates that hold if this one doesn't, each with what has to be away for that.
+  // The candidates that hold if this one doesn't, each with the ways to see it: what has to be away for that, and the house whose
+  // only other place it is; without a house it is the cell's only other number.
   strong(at) {
     if (!this.strongOf.has(at)) this.strongOf.set(at, this.seek(cellOf(at), valueOf(at)));
     return this.strongOf.get(at);
@@ -75,29 +89,31 @@ class Links {
 
   seek(cell, number) {
     const found = new Map(), can = this.cans[cell];
-    for (const { cells } of this.rules.housesOf[cell]) {
-      const places = cells.filter((other) => other !== cell && this.cans[other].has(number));
-      const rests = cells.filter((other) => other !== cell && other !== places[0]);
-      if (places.length === 1) found.set(candidate(places[0], number), rests.map((other) => candidate(other, number)));
+    for (const { name, cells } of this.rules.housesOf[cell]) {
+      const places = cells.filter((other) => other !== cell && this.cans[other].has(number)), [place] = places;
+      const rests = cells.filter((other) => other !== cell && other !== place).map((other) => candidate(other, number));
+      if (places.length !== 1) continue;
+      const at = candidate(place, number), ways = found.get(at) || [];
+      found.set(at, [...ways, { rests, by: name }]);
     }
     const others = [...can].filter((other) => other !== number);
-    if (others.length === 1) found.set(candidate(cell, others[0]), this.rules.missing(cell, can));
+    if (others.length === 1) found.set(candidate(cell, others[0]), [{ rests: this.rules.missing(cell, can) }]);
     return found;
   }
 
   // The shortest chain from a candidate, of so many at most.
   from(first, most) {
-    let last = [{ at: first, before: undefined, rests: [] }]; // none of which holds if the first doesn't
+    let last = [{ at: first, before: undefined }]; // none of which holds if the first doesn't
     const seen = new Set([first]);
     for (let length = 2; length <= most && last.length; length += 2) {
       const holding = [];
       for (const link of last) {
-        for (const [at, rests] of this.strong(link.at)) {
+        for (const [at, ways] of this.strong(link.at)) {
           if (seen.has(at)) continue;
           seen.add(at);
-          const next = { at, before: link, rests };
+          const next = { at, before: link, ways };
           const struck = [...this.weak(first)].filter((other) => other !== at && this.weak(at).has(other) && !isIn(other, next));
-          if (struck.length) return { ...told(next), struck };
+          if (struck.length) return { ...linksTo(next), struck };
           holding.push(next);
         }
       }
@@ -112,7 +128,7 @@ class Links {
       for (const at of this.weak(link.at)) {
         if (seen.has(-at - 1)) continue;
         seen.add(-at - 1);
-        found.push({ at, before: link, rests: [] });
+        found.push({ at, before: link });
       }
     }
     return found;
@@ -124,11 +140,8 @@ function isIn(at, link) {
   return false;
 }
 
-function told(end) {
-  const chain = [], rests = [];
-  for (let now = end; now; now = now.before) {
-    chain.unshift(now.at);
-    rests.push(...now.rests);
-  }
-  return { chain, rests };
+function linksTo(end) {
+  const links = [];
+  for (let now = end; now; now = now.before) links.unshift(now);
+  return { chain: links.map(({ at }) => at), choices: links.flatMap(({ ways }) => (ways ? [ways] : [])) };
 }

@@ -54,6 +54,6 @@ export class LightUp extends Counts {
       }
     }
     found.sort(([a], [b]) => a - b);
-    return found.map(([, one, decided]) => [one, decided]);
+    return found.map(([size, one, decided]) => [one, decided, size]);
   }
 }

@@ -1,6 +1,8 @@
 // Steps in Pattern: a line, and what is alike in each way to lay its runs.
 import { columnsOf, range, rowsOf } from "../puzzle.js";
+import { technique } from "./lines.js";
 import { candidate, cellOf, houses, step } from "./steps.js";
+import { leading } from "./trial.js";
 
 export class Pattern {
   constructor(puzzle) {
@@ -17,7 +19,7 @@ export class Pattern {
     return signs.map((sign) => new Set(sign === "." ? [0, 1] : [Number(sign === this.sign)]));
   }
 
-  // The lines that decide something, those with the fewest ways first, and of these the one that
+  // The lines that decide something, with their rank: those with few ways first, and of these the one that
   // says most.
   deciding(cans) {
     const found = [];
@@ -26,11 +28,13 @@ export class Pattern {
       const { ways, left } = laid(cells.map((cell) => cans[cell]), clue);
       const struck = (cell, k) => [...cans[cell]].filter((value) => !left[k].has(value));
       const strikes = cells.flatMap((cell, k) => struck(cell, k).map((value) => candidate(cell, value)));
-      const why = { kind: "laid", house: name, clue, ways };
-      if (strikes.length) found.push(step(cells, why, strikes));
+      if (!strikes.length) continue;
+      const how = technique(cells.map((cell) => cans[cell]), left, clue);
+      found.push(step(cells, { kind: "laid", house: name, clue, ways, how }, strikes));
     }
-    found.sort((a, b) => a.why.ways - b.why.ways || b.strikes.size - a.strikes.size);
-    return found.map((one) => [one, [...new Set([...one.strikes].map(cellOf))]]);
+    const rank = ({ why }) => Math.ceil(Math.log2(why.ways));
+    found.sort((a, b) => rank(a) - rank(b) || b.strikes.size - a.strikes.size);
+    return found.map((one) => [one, [...new Set([...one.strikes].map(cellOf))], rank(one)]);
   }
 
   simple(cans) { return this.deciding(cans).map(([one]) => one); }
@@ -39,19 +43,23 @@ export class Pattern {
 
   further() { return []; }
 
-  // The line that can't be laid if a cell has a value, by lines alone, and after how many cells.
+  // The line that can't be laid if a cell has a value, by lines alone, after how many cells, and what leads there.
   follow(cans, cell, value, most) {
     const now = new Map([[cell, new Set([value])]]), fresh = new Set(this.linesOf[cell]);
-    const can = (at) => now.get(at) ?? cans[at];
+    const entries = [{ cells: [cell], values: [value], why: { kind: "tried" }, from: [] }], can = (at) => now.get(at) ?? cans[at];
     for (const line of fresh) { // grows as it goes
       fresh.delete(line);
-      const { ways, left } = laid(line.cells.map(can), line.clue);
-      if (!ways) return { broken: { kind: "runs", house: line.name }, cells: now.size, house: line };
-      line.cells.forEach((at, k) => {
-        if (can(at).size === 1 || left[k].size === 2) return;
-        now.set(at, left[k]);
+      const { ways, left } = laid(line.cells.map(can), line.clue), from = line.cells.filter((at) => now.has(at));
+      const broken = { kind: "runs", house: line.name };
+      if (!ways) return { broken, cells: now.size, house: line, path: leading(entries, line.cells) };
+      const settled = line.cells.flatMap((at, k) => (can(at).size === 2 && left[k].size === 1 ? [[at, left[k]]] : []));
+      for (const [at, one] of settled) {
+        now.set(at, one);
         this.linesOf[at].forEach((other) => fresh.add(other));
-      });
+      }
+      const why = { kind: "laid", house: line.name, clue: line.clue, ways };
+      const cells = settled.map(([at]) => at), values = settled.map(([, one]) => [...one][0]);
+      if (settled.length) entries.push({ cells, values, why, from });
       if (now.size > most) return undefined;
     }
     return undefined;

@@ -3,6 +3,7 @@
 import { blocksOf, columnsOf, diagonalsOf, range, rowsOf } from "../puzzle.js";
 import { chains, wings } from "./chains.js";
 import { fish } from "./fish.js";
+import { Follow } from "./follow.js";
 import { closedSets } from "./sets.js";
 import { candidate, houses, step } from "./steps.js";
 
@@ -37,12 +38,22 @@ export class Solo {
     return this.numbers.filter((number) => !can.has(number)).map((number) => candidate(cell, number));
   }
 
-  // Steps with the cells that they decide: first a number with one place in a house, then a cell with
-  // one number.
-  * deciding(cans) {
-    yield* this.hidden(cans);
+  // Steps with the cells that they decide, as players look for them: the last blank cell of a house, a
+  // number with one place in a block, a cell with one number, a number with one place in a line.
+  deciding(cans, blank = new Set()) {
+    const found = [...this.lasts(cans, blank)];
+    for (const [one, [cell]] of this.hidden(cans)) found.push([one.why.house[0] === "block" ? 1 : 3, one, cell]);
     for (const [cell, can] of cans.entries()) {
-      if (can.size === 1) yield [step([cell], { kind: "single", cell }, [], this.missing(cell, can)), [cell]];
+      if (can.size === 1) found.push([2, step([cell], { kind: "single", cell }, [], this.missing(cell, can)), cell]);
+    }
+    return found.sort(([a], [b]) => a - b).map(([rank, one, cell]) => [one, [cell], rank]);
+  }
+
+  * lasts(cans, blank) {
+    for (const { name, cells } of this.houses) {
+      const [cell, ...others] = cells.filter((at) => blank.has(at));
+      if (cell === undefined || others.length || cans[cell].size !== 1) continue;
+      yield [0, step(cells, { kind: "last", house: name, cell }, [], this.missing(cell, cans[cell])), cell];
     }
   }
 
@@ -93,7 +104,27 @@ export class Solo {
       const strikes = beyond.filter((cell) => cans[cell].has(number)).map((cell) => candidate(cell, number));
       const why = { kind: "crossing", house: house.name, other: other.name, number };
       const rests = outside.map((cell) => candidate(cell, number));
-      if (strikes.length) yield [2, step([...house.cells, ...beyond], why, strikes, rests)];
+      if (strikes.length) yield [1, step([...house.cells, ...beyond], why, strikes, rests)];
+    }
+  }
+
+  // With diagonals: a number has places in a house, and cells outside see them all.
+  * diagonals(cans) {
+    for (const { name, cells } of this.puzzle.crossed ? this.houses : []) {
+      for (const number of this.numbers) {
+        const places = cells.filter((cell) => cans[cell].has(number));
+        if (places.length < 2) continue;
+        const [first, ...others] = places.map((cell) => this.peers[cell]);
+        const seen = [...first].filter((cell) => !cells.includes(cell) && cans[cell].has(number)
+          && others.every((peers) => peers.has(cell)));
+        const rests = cells.filter((cell) => !places.includes(cell)).map((cell) => candidate(cell, number));
+        const along = this.houses.find((other) => other.name[0] === "diagonal" && other.name !== name
+          && [...places, ...seen].every((cell) => other.cells.includes(cell)));
+        const why = along ? { kind: "diagonal", house: name, other: along.name, number }
+          : { kind: "seen", house: name, number, cells: places, targets: seen };
+        if (seen.length) yield [1, step([...new Set([...cells, ...(along ? along.cells : [])])], why,
+          seen.map((cell) => candidate(cell, number)), rests)];
+      }
     }
   }
 
@@ -118,14 +149,16 @@ export class Solo {
     const isFew = closed.length <= outside.length;
     const why = isFew ? { kind: "naked", house: name, cells: closed, numbers: own }
       : { kind: "hidden", house: name, cells: outside, numbers: left };
-    return [why.cells.length, step(cells, why, strikes, rests)];
+    return [why.cells.length + (isFew ? 0 : 0.5), step(cells, why, strikes, rests)];
   }
 
-  // The simplest steps that only take numbers away.
+  // The simplest steps that only take numbers away: a block against a line, then sets by their size, then along diagonals, and
+  // then the others.
   further(cans) {
-    const found = [...this.crossings(cans), ...this.sets(cans)];
-    const least = Math.min(...found.map(([rank]) => rank));
-    if (found.length) return found.filter(([rank]) => rank === least).map(([, one]) => one);
+    const least = (found) => found.filter(([rank]) => rank === Math.min(...found.map(([other]) => other))).map(([, one]) => one);
+    for (const found of [[...this.crossings(cans), ...this.sets(cans)], [...this.diagonals(cans)]]) {
+      if (found.length) return least(found);
+    }
     for (const seek of [(now) => fish(this, now, 2), (now) => wings(this, now), (now) => fish(this, now, 3),
       (now) => chains(this, now)]) {
       const one = seek(cans);
@@ -134,38 +167,6 @@ export class Solo {
     return [];
   }
 
-  // The cell or house that breaks if a cell has a number, by single numbers and places alone, and
-  // after how many cells.
-  follow(cans, cell, value, most) {
-    const now = cans.map((can) => new Set(can)), fresh = [cell], placed = new Set([cell]);
-    now[cell] = new Set([value]);
-    const put = (at, number) => {
-      now[at] = new Set([number]);
-      placed.add(at);
-      fresh.push(at);
-    };
-    while (fresh.length && placed.size <= most) {
-      const at = fresh.shift(), [number] = now[at];
-      for (const peer of this.peers[at]) {
-        if (!now[peer].delete(number)) continue;
-        if (!now[peer].size) return { broken: { kind: "none", cell: peer }, cells: placed.size, house: { cells: [peer] } };
-        if (now[peer].size === 1 && !placed.has(peer)) put(peer, [...now[peer]][0]);
-      }
-      for (const house of new Set([...this.peers[at], at].flatMap((near) => this.housesOf[near]))) {
-        const broken = this.filled(house, now, placed, put);
-        if (broken) return { broken, cells: placed.size, house };
-      }
-    }
-    return undefined;
-  }
-
-  // Puts what a house has one place for. Gives what is broken, if a number has none.
-  filled({ name, cells }, now, placed, put) {
-    for (const number of this.numbers) {
-      const places = cells.filter((cell) => now[cell].has(number));
-      if (!places.length) return { kind: "noPlace", house: name, number };
-      if (places.length === 1 && now[places[0]].size > 1 && !placed.has(places[0])) put(places[0], number);
-    }
-    return undefined;
-  }
+  // What breaks if a cell has a number, by single numbers and places alone: the cell or house, and the cells that lead there.
+  follow(cans, cell, value, most) { return new Follow(this, cans).from(cell, value, most); }
 }

@@ -17,14 +17,43 @@ export function without(cans, strikes) {
   for (const struck of strikes) cans[cellOf(struck)].delete(valueOf(struck));
 }
 
-// Of some steps in order those on which the last one rests.
-export function needed(steps) {
-  const kept = [steps.at(-1)], rests = new Set(kept[0].rests);
+// A step by what is away, or nothing if it doesn't hold then. One with choices is made of those that hold.
+function held(one, isGone) {
+  const areGone = ({ rests }) => [...rests].every(isGone);
+  if (!one.choices || areGone(one)) return areGone(one) ? one : undefined;
+  const ways = one.choices.map((some) => some.find(areGone));
+  return ways.every(Boolean) ? one.choose(ways) : undefined;
+}
+
+// The steps, if each holds once those before it are done.
+export function hold(steps, isAway) {
+  const gone = new Set(), all = [];
+  for (const one of steps) {
+    const made = held(one, (at) => gone.has(at) || isAway(at));
+    if (!made) return undefined;
+    all.push(made);
+    one.strikes.forEach((at) => gone.add(at));
+  }
+  return all;
+}
+
+// Of some steps in order those on which the last one rests, and of these none that can be left out.
+export function needed(steps, isAway) {
+  let kept = traced(steps, isAway);
+  for (const one of kept.slice(0, -1)) {
+    const fewer = hold(kept.filter((other) => other.strikes !== one.strikes), isAway);
+    if (fewer) kept = fewer;
+  }
+  return kept;
+}
+
+function traced(steps, isAway) {
+  const kept = [steps.at(-1)], rests = new Set([...kept[0].rests].filter((at) => !isAway(at)));
   for (const before of steps.slice(0, -1).reverse()) {
     if (![...before.strikes].some((struck) => rests.has(struck))) continue;
     kept.push(before);
     before.strikes.forEach((struck) => rests.delete(struck));
-    before.rests.forEach((struck) => rests.add(struck));
+    before.rests.forEach((struck) => isAway(struck) || rests.add(struck));
   }
   return kept.reverse();
 }
@@ -32,6 +61,10 @@ export function needed(steps) {
 // A house is a name, as ["row", 3], and its cells.
 export const houses = (kind, lines) => lines.map((cells, k) => ({ name: [kind, k + 1], cells }));
 
+// How far two cells are from each other, as a king walks.
+export const distance = ({ w }, a, b) =>
+  Math.max(Math.abs((a % w) - (b % w)), Math.abs(Math.floor(a / w) - Math.floor(b / w)));
+
 // The kinds of steps that look at one house.
-export const SIMPLE = ["single", "place", "laid", "hasBulbs", "needsBulbs", "lit", "oneLight", "oneTent", "hasTents",
+export const SIMPLE = ["last", "single", "place", "laid", "hasBulbs", "needsBulbs", "lit", "oneLight", "oneTent", "hasTents",
   "needsTents", "touch"];

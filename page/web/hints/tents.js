@@ -45,7 +45,7 @@ export class Tents extends Counts {
         alike.map(([cell]) => cell)]);
     }
     found.sort(([a], [b]) => a - b);
-    return found.map(([, one, decided]) => [one, decided]);
+    return found.map(([ways, one, decided]) => [one, decided, ways]);
   }
 
   // Cells that have the same value in each of some ways, with it.

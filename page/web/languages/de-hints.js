@@ -1,5 +1,7 @@
 // The words of hints in German: what stands in the cells, why, and where to look first. `cell` and `cells` have a row and
 // a column each.
+import { nameOf } from "../hints/names.js";
+
 const KINDS = { row: "Zeile", column: "Spalte", block: "Block", diagonal: "Diagonale" };
 export const line = (kind, k) => `${KINDS[kind]} ${k}`;
 const house = ([kind, k]) => line(kind, k);
@@ -25,8 +27,28 @@ function places([kind], cells) {
   return listed(cells.map(([row, column]) => `Zeile ${row} Spalte ${column}`));
 }
 
+// The names of steps that players know.
+const NAMES = { last: "Letzte Zahl", hiddenSingle: "Versteckter Einer", nakedSingle: "Nackter Einer",
+  pointing: "Zeiger (Pointing)", claiming: "Anspruch (Claiming)", nakedPair: "Nacktes Paar", nakedTriple: "Nackter Dreier", nakedQuad: "Nackter Vierer",
+  nakedSet: "Nackte Menge", hiddenPair: "Verstecktes Paar", hiddenTriple: "Versteckter Dreier", hiddenQuad: "Versteckter Vierer",
+  hiddenSet: "Versteckte Menge", xwing: "X-Wing", swordfish: "Schwertfisch", xywing: "XY-Wing",
+  skyscraper: "Wolkenkratzer (Skyscraper)", kite: "Drachen (Two-String Kite)", turbot: "Turbot-Fisch", xchain: "X-Kette",
+  xychain: "XY-Kette", aic: "Wechselnde Kette (AIC)", complete: "Vollständig", overlap: "Überlappung", edge: "Rand",
+  glue: "Kleber (Glue)", reach: "Außer Reichweite" };
+const named = (reason) => (NAMES[nameOf(reason)] ? `${NAMES[nameOf(reason)]}: ` : "");
+
+// A link of a chain, in the short form that players know: a candidate that holds, since the one before doesn't, or one that
+// doesn't, since the one before holds. Z5S9 is row 5, column 9.
+const short = ({ cell: [row, column] }) => `Z${row}S${column}`;
+function link(one, k, chain) {
+  if (k % 2 === 0) return `${short(one)} nicht ${one.number}`;
+  const isSame = short(chain[k - 1]) === short(one);
+  return `${short(one)} ${one.number}${isSame ? "" : ` (einziger Platz in ${house(one.by)})`}`;
+}
+
 // Why a step holds.
 const REASONS = {
+  last: ({ house: of }) => `Es ist das letzte Feld in ${house(of)}.`,
   single: () => "Keine andere Zahl bleibt dafür.",
   place: ({ house: of, number }) => `In ${house(of)} passt die ${number} in kein anderes Feld.`,
   crossing: ({ house: of, other, number }) =>
@@ -37,19 +59,21 @@ const REASONS = {
       `${listed(numbers)} sonst nirgends in ${house(of)}.`,
   hidden: ({ house: of, cells, numbers }) =>
     `In ${house(of)} passen ${listed(numbers)} nur in ${places(of, cells)}, also steht dort nichts anderes.`,
+  diagonal: (of) => REASONS.crossing(of),
+  seen: ({ house: of, number, cells, targets }) =>
+    `In ${house(of)} passt die ${number} nur in ${places(of, cells)}, also steht sie nicht in ` +
+      `${places(["cell"], targets)}: von dort sieht man alle diese Felder.`,
   xwing: ({ number, lines, others }) =>
-    `X-Wing: in ${listed(lines.map(house))} passt die ${number} nur in ${listed(others.map(house))}, also ` +
+    `In ${listed(lines.map(house))} passt die ${number} nur in ${listed(others.map(house))}, also ` +
       `steht sie dort sonst nirgends.`,
   swordfish: ({ number, lines, others }) =>
-    `Schwertfisch: in ${listed(lines.map(house))} passt die ${number} nur in ${listed(others.map(house))}, ` +
+    `In ${listed(lines.map(house))} passt die ${number} nur in ${listed(others.map(house))}, ` +
       `also steht sie dort sonst nirgends.`,
   xywing: ({ pivot, wings, number }) =>
-    `XY-Wing: was auch in ${at(pivot)} steht, eines von ${at(wings[0])} und ${at(wings[1])} ist ${number}, ` +
+    `Was auch in ${at(pivot)} steht, eines von ${at(wings[0])} und ${at(wings[1])} ist ${number}, ` +
       `also kein Feld, das beide sieht.`,
-  chain: ({ chain: [first, ...others], struck }) =>
-    `Kette: ist ${at(first.cell)} nicht ${first.number}, dann ist ` +
-      `${others.filter((_, k) => k % 2 === 0).map((link) => `${at(link.cell)} ${link.number}`).join(", dann ")}. ` +
-    `So oder so ist ${listed(struck.map((one) => `${at(one.cell)} nicht ${one.number}`))}.`,
+  chain: ({ chain, struck }) =>
+    `Ist ${chain.map(link).join(", dann ")}. So oder so ist ${listed(struck.map((one) => `${short(one)} nicht ${one.number}`))}.`,
   laid: ({ house: of, clue: numbers, ways }) =>
     `${house(of)} ${clue(numbers)}: die Abschnitte passen auf ${ways === 1 ? "nur eine Weise."
     : `${several(ways)} Weisen, und diese Felder sind in allen gleich.`}`,
@@ -69,11 +93,12 @@ const REASONS = {
   placed: ({ house: of, clue: number, ways }) =>
     `${house(of)} ${clue(number)}: die Zelte passen auf ${ways === 1 ? "nur eine Weise."
     : `${ways} Weisen, und das ist in allen so.`}`,
-  reduced: () => "Mengen, Kreuzungen und Ketten nehmen zuerst Zahlen weg.",
   trial: ({ cases }, game) => `Ausprobiert: ` +
     `${cases.map(({ value, broken }) => `${game === "solo" ? `mit ${value}` : WITH[game][value]} ` +
     `${BREAKS[broken.kind](broken)}`).join("; ")}.`,
 };
+
+export const why = (reason, game) => `${named(reason)}${REASONS[reason.kind](reason, game)}`;
 
 // What breaks, if a cell has another value.
 const BREAKS = {
@@ -94,6 +119,9 @@ const BREAKS = {
 export const LOOKS = {
   single: ({ house: of }) => `${house(of)}: für eines der Felder bleibt nur eine Zahl.`,
   place: ({ house: of }) => `${house(of)}: für eine Zahl bleibt nur ein Feld.`,
+  last: ({ house: of }) => `${house(of)}: nur ein Feld bleibt.`,
+  diagonal: (look) => LOOKS.crossing(look),
+  seen: ({ house: of }) => `${house(of)}: eine Zahl passt in wenige Felder, und andere sehen sie alle.`,
   crossing: ({ house: of, other }) => `${house(of)}, wo ${house(other)} kreuzt: eine Zahl passt nur dort.`,
   naked: ({ house: of, cells }) => `${house(of)}: ${cells.length} Felder teilen sich ${cells.length} Zahlen.`,
   hidden: ({ house: of, cells }) => `${house(of)}: ${cells.length} Zahlen teilen sich ${cells.length} Felder.`,
@@ -115,7 +143,9 @@ export const LOOKS = {
     "bricht bald eine Regel.",
 };
 
-export const NEEDS = { crossing: ["Block gegen eine Linie", "Blöcke gegen Linien"],
+export const NEEDS = { diagonal: ["Schritt entlang einer Diagonale", "Schritte entlang einer Diagonale"],
+  seen: ["Feld, das alle Plätze sieht", "Felder, die alle Plätze sehen"],
+  crossing: ["Block gegen eine Linie", "Blöcke gegen Linien"],
 naked: ["Menge von Zahlen", "Mengen von Zahlen"],
   hidden: ["Menge von Feldern", "Mengen von Feldern"], xwing: ["X-Wing", "X-Wings"],
   swordfish: ["Schwertfisch", "Schwertfische"],
@@ -125,16 +155,29 @@ naked: ["Menge von Zahlen", "Mengen von Zahlen"],
   trial: ["ausprobiertes Feld", "ausprobierte Felder"],
   guess: ["Feld, das nur eine längere Suche findet", "Felder, die nur eine längere Suche findet"] };
 
-// What stands in the cells of a hint, and why.
-export function hint({ kind: of, cells, values, reasons, more }, game) {
+// What stands in some cells, in sentences.
+function stands(cells, values, game) {
   const [one, many] = STANDS[game], name = (value) => (game === "solo" ? value : VALUES[game][value]);
+  const kinds = [...new Set(values)].sort((a, b) => b - a).map((value) => cells.filter((_, k) => values[k] === value));
+  const told = kinds.map((some) => [some.length === 1 ? at(some[0]) : `${some.length} Felder`, some.length === 1 ? one : many,
+    name(values[cells.indexOf(some[0])])]);
+  return told;
+}
+
+// What stands in the cells of a hint, and why. The name of its step is its head.
+export function hint({ kind: of, cells, values, reasons, more }, game) {
   if (of === "wrong") return `${at(cells[0])} ist ` +
     `falsch.${more ? ` ${count(more, "weiteres ist", "weitere sind")} falsch.` : ""}`;
-  const kinds = [...new Set(values)].sort((a, b) => b - a).map((value) => cells.filter((_, k) => values[k] === value));
-  const stands = kinds.map((some) => (some.length === 1 ? `${at(some[0])} ${one}` : `${some.length} Felder ` +
-    `${many}`));
-  const told = stands.map((text, k) => `${text} ${name(values[cells.indexOf(kinds[k][0])])}.`);
   const guess = of === "guess" ? ["Kein Schritt, den die Seite kennt, zeigt es: man findet es durch " +
     "Probieren."] : [];
-  return [...told, ...reasons.map((reason) => REASONS[reason.kind](reason, game)), ...guess].join(" ");
+  const [head = ""] = reasons.slice(-1).map(named), told = stands(cells, values, game).map((parts) => `${parts.join(" ")}.`);
+  return head + [...told, ...reasons.slice(-1).map((reason) => REASONS[reason.kind](reason, game)), ...guess].join(" ");
 }
+
+// A cell that is tried out, what follows from it, and what breaks in the end.
+export const suppose = (cell, value, game) => `Angenommen, ${stands([cell], [value], game)[0].join(" ")}.`;
+export const follows = (cells, values, reason, game) =>
+  `Dann ${listed(stands(cells, values, game).map(([what, verb, value]) => `${verb} ${what} ${value}`))}. ` +
+    `${REASONS[reason.kind](reason, game)}`;
+export const breaks = (broken, cell, value, game) => `Aber dann ${BREAKS[broken.kind](broken)}. Also stimmt nicht: ` +
+  `${stands([cell], [value], game)[0].join(" ")}.`;

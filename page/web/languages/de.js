@@ -1,15 +1,15 @@
 // The words of the page in German. The program's own names stand in GRADES, BROKEN and `refusals`.
-import { at, clue, count, hint, line, listed, LOOKS, NEEDS, several } from "./de-hints.js";
+import { at, breaks, clue, count, follows, hint, line, listed, LOOKS, NEEDS, several, suppose, why } from "./de-hints.js";
 
 const GAMES = {
-  solo: { name: "Solo", rule: "In jeder Zeile, jeder Spalte und jedem Block steht jede Zahl einmal.",
+  solo: { name: "Solo", choice: "Solo (Sudoku)", rule: "In jeder Zeile, jeder Spalte und jedem Block steht jede Zahl einmal.",
     crossed: "In jeder Zeile, jeder Spalte, jedem Block und auf beiden Diagonalen steht jede Zahl einmal." },
-  pattern: { name: "Pattern",
+  pattern: { name: "Pattern", choice: "Pattern (Nonogramm)",
     rule: "Die Zahlen sind die Längen der schwarzen Abschnitte einer Zeile oder Spalte, der Reihe nach." },
-  lightup: { name: "Light Up",
+  lightup: { name: "Light Up", choice: "Light Up (Akari)",
     rule: "Jedes weiße Feld wird beleuchtet. Keine Lampe beleuchtet eine andere. Eine Zahl zählt die Lampen " +
       "neben ihr." },
-  tents: { name: "Tents",
+  tents: { name: "Tents", choice: "Tents",
     rule: "Neben jedem Baum steht ein eigenes Zelt. Keine zwei Zelte berühren sich. Die Zahlen zählen die " +
       "Zelte." },
 };
@@ -57,29 +57,71 @@ function keys(puzzle, isTouched) {
 }
 
 const PROVED = "Vom Programm bewiesen: ";
+const dayText = (day) =>
+  new Intl.DateTimeFormat("de", { day: "numeric", month: "long", year: "numeric", timeZone: "UTC" }).format(Date.parse(day));
+
 export default {
-  language: "Deutsch", games: GAMES, levels: LEVELS, line, size, kind, keys, brokenRule, hint,
+  games: GAMES, levels: LEVELS, line, size, kind, keys, brokenRule, hint, suppose, follows, breaks, why,
   columns: "Spalten", none: "keine", clue: "Hinweis", notes: "Notizen", corners: "in den Ecken",
   signs: { ".": "leer", "•": "Punkt", "#": "schwarz", O: "Lampe", "^": "Zelt", T: "Baum" },
   states: { given: "vorgegeben", met: "erfüllt", lit: "beleuchtet", broken: "gegen die Regeln",
-    wrong: "falsch", marked: "markiert", hint: "Tipp", differs: "verschieden" },
+    wrong: "falsch", wrongNote: "falsche Notizen", marked: "markiert", hint: "Tipp", differs: "verschieden",
+    struck: "gestrichen", tried: "ausprobiert",
+    then: "folgt", witness: "schließt die anderen aus" },
   picture: (name) => `Richtig. Das Rätsel ist gelöst: ${name}.`,
   rule: ({ game, crossed }) => (crossed ? GAMES[game].crossed : GAMES[game].rule),
   look: (look) => (LOOKS[look.kind] || (() => "Die markierten Felder."))(look),
+  step: (k, all, told) => `Schritt ${k} von ${all}. ${told}`,
+  stepsMore: (all) => `${all} Schritte führen zu einem Feld. Noch einmal Tipp zeigt den ersten.`,
+  sheet: (k, all, { x, y }) => `Blatt ${k} von ${all}: Spalten ${x[0] + 1} bis ${x[1]}, Zeilen ${y[0] + 1} bis ${y[1]}`,
+  struck: (numbers) => `nicht ${numbers}`,
   shown: (sign) => `hier ${sign}`,
   left: (number, left) => `${number}, noch ${left}`,
   held: (number) => `Jedes Feld, das nun gewählt wird, bekommt ${number}. Noch einmal ${number} beendet das.`,
   solution: (k) => `Lösung ${k}`,
   differ: (cells) => `Zwei stehen unten. Sie unterscheiden sich in den ${cells} markierten Feldern.`,
   wrong: (cells) => `${count(cells, "Feld ist", "Felder sind")} falsch.`.replace(/^1 /, "Ein "),
+  wrongNotes: (cells) => `In den Notizen von ${count(cells, "Feld", "Feldern")} fehlt seine Zahl.`
+    .replace(/von 1 /, "von einem "),
+  help: {
+    solo: ["Fülle jedes leere Feld mit einer Zahl, so dass jede Zeile, jede Spalte und jeder Block jede Zahl einmal hat.",
+      "Wo einem Feld nur eine Zahl bleibt, oder einer Zahl nur ein Feld einer Zeile, einer Spalte oder eines Blocks, steht " +
+      "sie dort."],
+    pattern: ["Die Zahlen an einer Zeile oder Spalte sind die Längen ihrer schwarzen Abschnitte, der Reihe nach. Zwischen " +
+      "zweien ist mindestens ein Feld weiß.",
+      "Ein langer Abschnitt bedeckt die Mitte seiner Linie, wo er auch beginnt. Das ist ein guter Anfang."],
+    lightup: ["Setze Lampen in weiße Felder. Eine Lampe beleuchtet ihre Zeile und Spalte bis zum nächsten schwarzen Feld. Jedes " +
+      "weiße Feld wird beleuchtet.", "Keine Lampe beleuchtet eine andere. Eine Zahl sagt, wie viele Lampen neben ihrem Feld stehen."],
+    tents: ["Setze neben jeden Baum ein Zelt, nicht über Eck, so dass jeder Baum ein eigenes hat.",
+      "Keine zwei Zelte berühren sich, auch nicht über Eck. Die Zahlen sagen, wie viele Zelte eine Zeile oder Spalte hat."],
+  },
+  helpOf: (name) => `So geht ${name}`, examples: ["Ein Rätsel", "Seine Lösung"],
+  shortcuts: {
+    solo: [["Pfeile", "gehen"], ["1 bis 9", "eine Zahl"], ["Umschalt und Ziffer", "eine Notiz"],
+      ["N, K", "Notizen, Notizen in den Ecken"],
+      ["Umschalt und Pfeil", "mehrere Felder wählen"], ["0 oder Entf", "leeren"], ["Strg-Z, Strg-Umschalt-Z", "zurück, wieder"],
+      ["H, C", "Tipp, Prüfen"], ["+, −", "größer, kleiner"], ["Esc", "die Worte schließen"], ["?", "dieses Blatt"]],
+    others: [["Pfeile", "gehen"], ["Leertaste", "gefüllt, Punkt, leer"], ["X", "ein Punkt"], ["Umschalt und Pfeil", "zeichnen"],
+      ["0 oder Entf", "leeren"], ["Strg-Z, Strg-Umschalt-Z", "zurück, wieder"], ["H, C", "Tipp, Prüfen"],
+      ["+, −", "größer, kleiner"], ["Esc", "die Worte schließen"], ["?", "dieses Blatt"]],
+  },
+  day: (day) => `Das Rätsel vom ${dayText(day)}.`,
+  dayName: (day, isDone) => `${dayText(day)}${isDone ? ", gelöst" : ""}`,
+  streak: (now, most) => `${count(now, "Tag", "Tage")} in Folge; am meisten waren es ${most}.`,
+  outcome: ({ time, hints, isShown }) =>
+    (isShown ? "Die Lösung wurde gezeigt." : `Zeit ${time}, ${count(hints, "Tipp", "Tipps")}.`),
+  result: ({ kind, day, time, hints, isShown }) =>
+    `${kind}${day ? `, ${day}` : ""}: ${isShown ? "gezeigt" : `gelöst in ${time}, ${count(hints, "Tipp", "Tipps")}`}`,
   noHint: (said) => `${said} Darum gibt es keinen Tipp.`,
-  noPuzzle: (seed) => `Aus der Nummer ${seed} wurde kein Rätsel. Versuche eine andere.`,
   refused: (said) => `Diese ID wird abgelehnt: ${said}.`,
   otherGame: (game) => `Das ist eine ID von ${GAMES[game].name}.`,
   begun: (name, filled, open, isSolved) => `${name}: ${isSolved ? "gelöst" : `${filled} von ${open}`}`,
-  solvedHeads: ["Rätsel", "Gelöst", "Beste", "Mittel"],
+  solvedHeads: ["Rätsel", "Gelöst", "Ohne Tipp", "Beste", "Mittel"],
   refusals: { "seed id": "sie ist die Nummer eines anderen Programms, kein Rätsel",
     "no colon": (example) => `sie ist nicht wie ${example}`,
+    "bad byte": "an der markierten Stelle steht etwas, das dort nicht stehen kann",
+    "number range": "die markierte Zahl ist zu klein oder zu groß", line: "der markierte Hinweis ist zu lang für seine Linie",
+    grid: "ihr Gitter passt nicht zum Rätsel", words: "das Programm kennt diese Worte nicht",
     "field id": "sie hat ein Steuerzeichen", "too few": "sie endet zu früh",
     "too many": "sie ist zu lang für ihre Größe",
     "too long": "sie hat über 65.536 Bytes", "bad size": "ihre Größe ist nicht lesbar",
@@ -134,10 +176,19 @@ export default {
     fillFirst: "Darum ist kein einzelnes Feld richtig oder falsch. Fülle erst alle Felder.",
     correct: "Richtig. Das Rätsel ist gelöst.", noMistake: "Bis jetzt kein Fehler.",
     filledWrong: "Jedes Feld ist gefüllt, aber etwas stimmt nicht. Prüfen zeigt wo.",
+    nextStep: "Noch einmal Tipp zeigt den nächsten Schritt.",
+    byNotes: "Das beruht auf deinen Notizen.",
+    solveAsk: "Lösen zeigt die ganze Lösung, und das Rätsel zählt dann nicht als gelöst. Noch einmal Lösen zeigt sie.",
+    unkept: "Dieser Browser merkt sich nichts mehr. Drucke oder teile das Rätsel, um es zu behalten.",
+    still: "Noch kein Rätsel dieser Schwierigkeit. Es wird weiter gesucht, während du spielst.", stopped: "Beendet.",
+    made: "Dein neues Rätsel ist da.", noPuzzle: "Aus dieser Nummer wurde kein Rätsel. Versuche eine andere.",
+    variant: "Dieser Link ist von einer Abart, die es hier nicht gibt. Es gibt Sudokus, auch mit beiden Diagonalen.",
+    same: "Dieses Rätsel liegt schon auf dem Tisch.",
     hintMore: "Noch einmal Tipp zeigt das Feld.",
     startedOver: "Alles ist wieder leer. Zurück bringt es wieder.",
     marked: "Gemerkt. Zur Marke führt hierher zurück.",
-    keptBefore: "Das Rätsel davor bleibt: Zurück im Browser führt hin.", copied: "Der Link ist kopiert.",
+    keptBefore: "Das Rätsel davor bleibt: Zurück im Browser führt hin.", resultCopied: "Das Ergebnis ist kopiert.",
+    copied: "Der Link ist kopiert.",
     notCopied: "Die Adresse oben ist der Link.",
   },
   page: {
@@ -147,10 +198,14 @@ export default {
     hint: "Tipp", check: "Prüfen", solve: "Lösen",
     grade: "Grad", allNotes: "Alle Notizen", mark: "Merken", back: "Zur Marke", startOver: "Von vorn",
     share: "Teilen", paper: "Drucken",
-    solutions: "Lösungen", make: "Neues Rätsel", size: "Größe", difficulty: "Schwierigkeit", seed: "Nummer",
+    pause: "Pause", goOn: "Weiter", zoom: "Größe", smaller: "kleiner", larger: "größer", brag: "Ergebnis teilen",
+    calendar: "Kalender",
+    earlier: "ein Monat davor", later: "ein Monat danach", help: "Regeln, Tasten", keyboard: "Tasten",
+    stop: "Anhalten", close: "Schließen", rest: "Zum Ende", solutions: "Lösungen", make: "Neues Rätsel", size: "Größe",
+    difficulty: "Schwierigkeit", seed: "Nummer",
     any: "beliebig", picture: "Ein Bild", generate: "Neues Rätsel",
     open: "Ein Rätsel öffnen", begun: "Weiter mit", choose: "wählen",
-    id: "Eine ID, ein Link, oder ein Sudoku aus 81 Zeichen", enter: "Öffnen",
+    id: "Eine ID, ein Link (auch von f-puzzles oder puzz.link), oder ein Sudoku aus 81 Zeichen", enter: "Öffnen",
     settings: "Einstellungen", solved: "Was du gelöst hast",
     proved: "Vom Programm bewiesen: dass eine Lösung die einzige ist, dass ein Gitter stimmt, jeder Fehler, " +
       "und warum eine ID abgelehnt wird. " +

@@ -1,5 +1,7 @@
 // The words of hints in English: what stands in the cells, why, and where to look first. `cell` and `cells` have a row and
 // a column each.
+import { nameOf } from "../hints/names.js";
+
 export const line = (kind, k) => `${kind} ${k}`;
 const house = ([kind, k]) => line(kind, k);
 export const at = ([row, column]) => `row ${row}, column ${column}`;
@@ -22,8 +24,27 @@ function places([kind], cells) {
   return listed(cells.map(([row, column]) => `row ${row} column ${column}`));
 }
 
+// The names of steps that players know.
+const NAMES = { last: "Last digit", hiddenSingle: "Hidden single", nakedSingle: "Naked single", pointing: "Pointing",
+  claiming: "Claiming", nakedPair: "Naked pair", nakedTriple: "Naked triple", nakedQuad: "Naked quad", nakedSet: "Naked set",
+  hiddenPair: "Hidden pair", hiddenTriple: "Hidden triple", hiddenQuad: "Hidden quad", hiddenSet: "Hidden set",
+  xwing: "X-wing", swordfish: "Swordfish", xywing: "XY-wing", skyscraper: "Skyscraper", kite: "Two-string kite",
+  turbot: "Turbot fish", xchain: "X-chain", xychain: "XY-chain", aic: "Alternating chain",
+  complete: "Complete", overlap: "Overlap", edge: "Edge", glue: "Glue", reach: "Out of reach" };
+const named = (reason) => (NAMES[nameOf(reason)] ? `${NAMES[nameOf(reason)]}: ` : "");
+
+// A link of a chain, in the short form that players know: a candidate that holds, since the one before doesn't, or one that
+// doesn't, since the one before holds. r5c9 is row 5, column 9.
+const short = ({ cell: [row, column] }) => `r${row}c${column}`;
+function link(one, k, chain) {
+  if (k % 2 === 0) return `${short(one)} isn’t ${one.number}`;
+  const isSame = short(chain[k - 1]) === short(one);
+  return `${short(one)} is ${one.number}${isSame ? "" : ` (only place in ${house(one.by)})`}`;
+}
+
 // Why a step holds.
 const REASONS = {
+  last: ({ house: of }) => `It is the last cell of ${house(of)}.`,
   single: () => "No other number is left for it.",
   place: ({ house: of, number }) => `In ${house(of)}, ${number} fits in no other cell.`,
   crossing: ({ house: of, other, number }) =>
@@ -33,19 +54,21 @@ const REASONS = {
       `nowhere else in ${house(of)}.`,
   hidden: ({ house: of, cells, numbers }) =>
     `In ${house(of)}, ${listed(numbers)} fit only at ${places(of, cells)}, so nothing else stands there.`,
+  diagonal: (of) => REASONS.crossing(of),
+  seen: ({ house: of, number, cells, targets }) =>
+    `In ${house(of)}, ${number} fits only at ${places(of, cells)}, so it doesn’t stand at ` +
+      `${places(["cell"], targets)}, which ${targets.length === 1 ? "sees" : "see"} all of these.`,
   xwing: ({ number, lines, others }) =>
-    `X-wing: in ${listed(lines.map(house))}, ${number} fits in ${listed(others.map(house))} alone, so it ` +
+    `In ${listed(lines.map(house))}, ${number} fits in ${listed(others.map(house))} alone, so it ` +
       `stands nowhere else in these.`,
   swordfish: ({ number, lines, others }) =>
-    `Swordfish: in ${listed(lines.map(house))}, ${number} fits in ${listed(others.map(house))} alone, so it ` +
+    `In ${listed(lines.map(house))}, ${number} fits in ${listed(others.map(house))} alone, so it ` +
       `stands nowhere else in these.`,
   xywing: ({ pivot, wings, number }) =>
-    `XY-wing: whichever number ${at(pivot)} has, ${at(wings[0])} or ${at(wings[1])} is ${number}, so no ` +
+    `Whichever number ${at(pivot)} has, ${at(wings[0])} or ${at(wings[1])} is ${number}, so no ` +
       `cell that sees both is ${number}.`,
-  chain: ({ chain: [first, ...others], struck }) =>
-    `Chain: if ${at(first.cell)} isn’t ${first.number}, then ` +
-      `${others.filter((_, k) => k % 2 === 0).map((link) => `${at(link.cell)} is ${link.number}`).join(", so ")}. ` +
-    `Either way ${listed(struck.map((one) => `${at(one.cell)} isn’t ${one.number}`))}.`,
+  chain: ({ chain, struck }) =>
+    `If ${chain.map(link).join(", ")}. Either way ${listed(struck.map((one) => `${short(one)} isn’t ${one.number}`))}.`,
   laid: ({ house: of, clue: numbers, ways }) =>
     `${big(house(of))} ${clue(numbers)}: its runs can be laid in ${ways === 1 ? "one way alone."
     : `${several(ways)} ways, and these cells are alike in all of them.`}`,
@@ -63,11 +86,12 @@ const REASONS = {
   placed: ({ house: of, clue: number, ways }) =>
     `${big(house(of))} ${clue(number)}: its tents can be put in ${ways === 1 ? "one way alone."
     : `${ways} ways, and that is so in all of them.`}`,
-  reduced: () => "Sets, crossings and chains first take numbers away.",
   trial: ({ cases }, game) => `Tried out: ` +
     `${cases.map(({ value, broken }) => `with ${game === "solo" ? value : VALUES[game][value]} there, ` +
     `${BREAKS[broken.kind](broken)}`).join("; ")}.`,
 };
+
+export const why = (reason, game) => `${named(reason)}${REASONS[reason.kind](reason, game)}`;
 
 // What breaks, if a cell has another value.
 const BREAKS = {
@@ -88,8 +112,11 @@ const BREAKS = {
 export const LOOKS = {
   single: ({ house: of }) => `Look at ${house(of)}: one of its cells has a single number left.`,
   place: ({ house: of }) => `Look at ${house(of)}: a number has a single place left.`,
+  last: ({ house: of }) => `Look at ${house(of)}: a single cell is left.`,
   crossing: ({ house: of, other }) =>
     `Look at ${house(of)} where it crosses ${house(other)}: a number fits there alone.`,
+  diagonal: (look) => LOOKS.crossing(look),
+  seen: ({ house: of }) => `Look at ${house(of)}: a number fits in few cells, and others see them all.`,
   naked: ({ house: of, cells }) => `Look at ${house(of)}: ${cells.length} cells share ${cells.length} numbers.`,
   hidden: ({ house: of, cells }) =>
     `Look at ${house(of)}: ${cells.length} numbers share ${cells.length} cells.`,
@@ -110,7 +137,8 @@ export const LOOKS = {
   trial: () => "No single step leads on. Try out the marked cell: one of its values breaks a rule soon.",
 };
 
-export const NEEDS = { crossing: ["block against a line", "blocks against lines"],
+export const NEEDS = { diagonal: ["step along a diagonal", "steps along a diagonal"],
+  seen: ["cell that sees all places", "cells that see all places"], crossing: ["block against a line", "blocks against lines"],
 naked: ["set of numbers", "sets of numbers"],
   hidden: ["set of places", "sets of places"], xwing: ["X-wing", "X-wings"],
   swordfish: ["swordfish", "swordfishes"],
@@ -119,15 +147,27 @@ naked: ["set of numbers", "sets of numbers"],
   placed: ["line seen in all its ways", "lines seen in all their ways"], trial: ["cell tried out", "cells tried out"],
   guess: ["cell that only a longer search finds", "cells that only a longer search finds"] };
 
-// What stands in the cells of a hint, and why.
-export function hint({ kind: of, cells, values, reasons, more }, game) {
+// What stands in some cells, in sentences.
+function stands(cells, values, game) {
   const [one, many] = STANDS[game], name = (value) => (game === "solo" ? value : VALUES[game][value]);
+  const kinds = [...new Set(values)].sort((a, b) => b - a).map((value) => cells.filter((_, k) => values[k] === value));
+  const told = kinds.map((some) => (some.length === 1 ? `${at(some[0])} ${one}` : `${some.length} cells ${many}`));
+  return told.map((text, k) => `${text} ${name(values[cells.indexOf(kinds[k][0])])}`);
+}
+
+// What stands in the cells of a hint, and why. The name of its step is its head.
+export function hint({ kind: of, cells, values, reasons, more }, game) {
   if (of === "wrong") return `${big(at(cells[0]))} is ` +
     `wrong.${more ? ` ${count(more, "more is", "more are")} wrong.` : ""}`;
-  const kinds = [...new Set(values)].sort((a, b) => b - a).map((value) => cells.filter((_, k) => values[k] === value));
-  const stands = kinds.map((some) => (some.length === 1 ? `${big(at(some[0]))} ${one}` : `${some.length} ` +
-    `cells ${many}`));
-  const told = stands.map((text, k) => `${text} ${name(values[cells.indexOf(kinds[k][0])])}.`);
   const guess = of === "guess" ? ["No step that the page knows shows it: it is found by trying."] : [];
-  return [...told, ...reasons.map((reason) => REASONS[reason.kind](reason, game)), ...guess].join(" ");
+  const [head = ""] = reasons.slice(-1).map(named), told = stands(cells, values, game).map((text) => `${big(text)}.`);
+  return head + [...told, ...reasons.slice(-1).map((reason) => REASONS[reason.kind](reason, game)), ...guess].join(" ");
 }
+
+// A cell that is tried out, what follows from it, and what breaks in the end.
+const first = (cell, value, game) => stands([cell], [value], game)[0];
+export const suppose = (cell, value, game) => `Suppose ${first(cell, value, game)}.`;
+export const follows = (cells, values, reason, game) =>
+  `Then ${listed(stands(cells, values, game))}. ${REASONS[reason.kind](reason, game)}`;
+export const breaks = (broken, cell, value, game) => `But then ${BREAKS[broken.kind](broken)}. So it isn’t true that ` +
+  `${first(cell, value, game)}.`;

@@ -2,7 +2,7 @@
 ghost use Rattle.std.specs.Prelude.{◌≡◌, true, false, OnOk, OnErr, IfErr};
 ghost use Rattle.commands.specs.Answers.{PutBegun};
 ghost use Rattle.commands.specs.Replies.{refusal};
-ghost use Rattle.commands.specs.Stops.{DeliversReply, LeavesSink, Writes, is_broken};
+ghost use Rattle.commands.specs.Stops.{DeliversReply, LeavesSink, Writes, is_broken_end};
 
 use crate::answers::reply::{Reply, id_refused};
 use crate::answers::status::{RunResult, Stop};
@@ -16,7 +16,7 @@ pub fn put_all<O: Sink>(output: &mut O, bytes: &[u8]) -> Result<(), Stop>
     ensures ok { OnOk result (O.takes output.old bytes.now output.new) }
     ensures fine { OnOk result (O.has_failed output.new ≡ false) }
     ensures err { OnErr result (PutBegun O.takes output.old bytes.now output.new) }
-    ensures cause { IfErr result (λ e. (O.has_failed output.new ≡ true) × (is_broken e ≡ true)) }
+    ensures cause { IfErr result (λ e. (O.has_failed output.new ≡ true) × (is_broken_end e ≡ true)) }
 {
     let mut rest = bytes;
     while !rest.is_empty() {

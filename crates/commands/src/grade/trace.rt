@@ -2,7 +2,7 @@
 ghost use Rattle.std.specs.Prelude.{◌≡◌, ◌+◌, ◌<◌, ◌≤◌, ℕ, false, length, slice_index, OnErr, OnOk, IfErr, string_bytes, string_len};
 ghost use Rattle.gameid_core.specs.GridTexts.{Adds};
 ghost use Rattle.commands.specs.Answers.{PutUpTo, PutBegun};
-ghost use Rattle.commands.specs.Stops.{is_broken};
+ghost use Rattle.commands.specs.Stops.{is_broken_end};
 ghost use Rattle.commands.specs.TracePieces.{KeptOrPut, VisitsBegun, VisitsInPieces, VisitsPut};
 ghost use Rattle.commands.specs.Traces.{visit_line, sweeps_text};
 
@@ -45,7 +45,7 @@ fn put_piece<O: Sink>(text: &mut String, output: &mut O) -> Result<(), Stop>
         (PutUpTo O.takes output.old (string_bytes text.old) (string_bytes text.new) output.new) }
     ensures fine { OnOk result (O.has_failed output.new ≡ false) }
     ensures err { OnErr result (PutBegun O.takes output.old (string_bytes text.old) output.new) }
-    ensures failed { IfErr result (λ stop. O.has_failed output.new ≡ is_broken stop) }
+    ensures failed { IfErr result (λ stop. O.has_failed output.new ≡ is_broken_end stop) }
     ensures whole { OnOk result
         (KeptOrPut O.takes output.old (string_bytes text.old) (string_bytes text.new) output.new) }
     ensures small { OnOk result (string_len text.new < FULL_PIECE) }
@@ -74,7 +74,7 @@ pub fn put_visits<P: Solvable, O: Sink>(
     ensures err { OnErr result
         (VisitsBegun O.takes (P.game.visit_name puzzle.now) visits.now output.old text.old
         output.new) }
-    ensures failed { IfErr result (λ stop. O.has_failed output.new ≡ is_broken stop) }
+    ensures failed { IfErr result (λ stop. O.has_failed output.new ≡ is_broken_end stop) }
     ensures pieces { OnOk result (VisitsInPieces O.takes (P.game.visit_name puzzle.now) visits.now
         output.old text.old text.new output.new) }
     ensures small { string_len text.old < FULL_PIECE

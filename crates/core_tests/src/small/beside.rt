@@ -5,7 +5,7 @@ ghost use Rattle.engine_core.specs.RuleSystem.{FitsIn, needs_of};
 use super::puzzles::Small;
 use super::walk::{Walk, grid_of, has_empty_cell, pick};
 use super::{CELLS, Numbers, Sets};
-use engine_core::{Closing, HouseRules, Mode, RuleSet, Rules, Searchable, Store, Verdict};
+use engine_core::{Closing, HouseRules, Mode, Noted, Rules, Searchable, Store, Verdict};
 use gameid_core::SoloPuzzle;
 use grid_core::{Board, Grid};
 use std::alloc::{AllocError, Global};
@@ -254,7 +254,7 @@ pub(crate) fn plain_trials<R: Searchable>(
 }
 
 /// Whether rules of Solo that no search goes by close the puzzle as the plain program does.
-pub(crate) fn set_closes<S: RuleSet<Puzzle = SoloPuzzle>>(
+pub(crate) fn set_closes<S: Noted<Puzzle = SoloPuzzle>>(
     alloc: Global,
     puzzle: &SoloPuzzle,
     small: &Small,

@@ -2,7 +2,7 @@
 #![tactic(auto, using(crate::proofs::LawSets::position_laws))]
 
 ghost use Rattle.std.specs.Prelude.{length};
-ghost use Rattle.engine_core.specs.Common.{IsTrailUnderWay, standing_of};
+ghost use Rattle.engine_core.specs.Common.{IsTrailUnderWay, no_notes, standing_of};
 
 use crate::closing::closer::Closer;
 use crate::mode::{Closing, Taken};
@@ -25,12 +25,13 @@ pub struct PlainPosition<R: Rules> {
 impl<R: Rules> Model for PlainPosition<R> {
     ghost use Rattle.engine_core.specs.Common.{Placed, IsPlainPlaced};
 
-    ghost Value = { Placed };
+    ghost Value = { Placed (Unit {0}) };
 
     ghost view = { λ s. record {
       made = s.closer.made;
       trail = s.trailed;
       waits = s.closer.waits;
+      notes = tt;
     } };
 
     ghost invariant = { λ s. IsPlainPlaced s.closer.made s.trailed.board };
@@ -41,7 +42,7 @@ impl<R: Rules> Position<R> for PlainPosition<R> {
 
     ghost room = { λ s. record { needs = s.made; trail = length s.trail.changes } };
 
-    ghost walks = { λ rules s. IsTrailUnderWay (R.system rules) s };
+    ghost walks = { λ rules s. IsTrailUnderWay no_notes (R.system rules) s };
 
     fn new(alloc: Global, rules: &R) -> Result<PlainPosition<R>, AllocError> {
         let closer = Closer::new(alloc, rules, 0)?;

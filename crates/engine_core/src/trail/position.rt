@@ -2,15 +2,17 @@
 #![tactic(auto, using(crate::proofs::LawSets::position_laws))]
 
 ghost use Rattle.std.specs.Prelude.{◌<◌, ◌≡◌, ◌≤◌, ◌+◌, IfOk, IfSome, length};
-ghost use Rattle.engine_core.specs.Common.{cells_of, max_cells, max_values, IsTrailUnderWay, standing_of, words_of, IsAlive, IsClosedIn, IsTaken, IsBoardOf, IsAlong, AreHousesRested, GoesOn, IsStep, board_in, AreRestedBut, AreWokenSince};
+ghost use Rattle.engine_core.specs.Common.{cells_of, max_cells, max_values, IsTrailUnderWay, standing_of, words_of, IsAlive, IsClosedIn, IsTaken, IsBoardOf, IsAlong, AreHousesRested, GoesOn, IsStep, board_in, AreRestedBut};
 
 use crate::house_rules::HouseRules;
 use crate::mode::{Closing, Taken};
 use crate::needs::{Needs, needs_for};
+use crate::notes::{Noted, Notes};
 use crate::rule_set::RuleSet;
 use crate::rules::Rules;
 use crate::search::position::Position;
 use crate::trail::cells::{best_cell, least_value, write_grid};
+use crate::trail::noting::{put_back, wake_since};
 use crate::trail::trailed::TrailedBoard;
 use crate::waits::{dequeue, dequeue_if, next_around};
 use grid_core::{Board, Fixed, Grid};
@@ -36,83 +38,58 @@ fn wait_from<S: RuleSet>(rules: &HouseRules<S>, from: Option<usize>, waits: &mut
     }
 }
 
-/// Marks the houses of each cell that the trail names from the number `from` on. Those of a cell that has one value now are
-/// marked in `first` too, if last values are to be noted.
-fn wake_since<S: RuleSet>(
-    rules: &HouseRules<S>,
-    trailed: &TrailedBoard,
-    from: usize,
-    waits: &mut [u64],
-    first: &mut [u64],
-    notes_last: bool,
-)
-    requires board_of { IsBoardOf (S.system (S.puzzle_of rules.now.set)) trailed.now.board }
-    requires from_in { from ≤ trailed.now.len }
-    requires room { words_of (S.system (S.puzzle_of rules.now.set)).houses ≤ length waits.old }
-    requires first { words_of (S.system (S.puzzle_of rules.now.set)).houses ≤ length first.old }
-    ensures { AreWokenSince (S.system (S.puzzle_of rules.now.set)) trailed.now from
-        waits.old waits.new }
-{
-    let board = trailed.board();
-    for number in from..trailed.len() {
-        let place = trailed.changed(number);
-        rules.wake(place, waits);
-        if notes_last && board.count(place) == 1 {
-            rules.wake(place, first);
-        }
-    }
-}
-
-/// A board with its trail. With it go what the rules work in, room for the sets of a house's cells and for what is kept of
-/// them, a mark for each house that waits, and one for each that is to come first.
+/// A board with its trail. With it go what the rules work in and what they note beside it, a mark for each house that waits,
+/// and one for each that is to come first.
 #[derive(Drop)]
-pub struct TrailPosition<S: RuleSet> {
+pub struct TrailPosition<S: Noted> {
     made: Needs,
     work: S::Scratch,
-    sets: Fixed<u32>,
-    kept: Fixed<u32>,
+    notes: S::Notes,
     waits: Fixed<u64>,
     first: Fixed<u64>,
     trailed: TrailedBoard,
 }
 
-impl<S: RuleSet> Model for TrailPosition<S> {
+impl<S: Noted> Model for TrailPosition<S> {
     ghost use Rattle.engine_core.specs.Common.{needs_in, Placed, IsPlaced};
 
-    ghost Value = { Placed };
+    ghost Value = { Placed S.Notes };
 
     ghost view = { λ s. record {
       made = needs_in s.made;
       trail = s.trailed;
       waits = s.waits.items;
+      notes = s.notes;
     } };
 
-    ghost invariant = { λ s. IsPlaced (needs_in s.made) s.trailed.board s.sets.items s.kept.items
-        s.waits.items s.first.items × S.serves s.work (needs_in s.made) };
+    ghost invariant = { λ s. IsPlaced (needs_in s.made) s.trailed.board s.waits.items s.first.items
+        × S.serves s.work (needs_in s.made) × S.Notes.made_for s.notes (needs_in s.made) };
 }
 
-impl<S: RuleSet> TrailPosition<S> {
+impl<S: Noted> TrailPosition<S> {
     /// Visits the house, and marks the houses of each cell that lost a value in place of the house. Says whether the visit
     /// would leave a cell without a value: then what it left is open.
     fn step(&mut self, rules: &HouseRules<S>, house: usize, notes_last: bool) -> bool
-        requires along { IsAlong (S.system (S.puzzle_of rules.now.set)) self.old }
+        requires along { IsAlong (S.Notes.noted (S.puzzle_of rules.now.set))
+            (S.system (S.puzzle_of rules.now.set)) self.old }
         requires alive { IsAlive (S.system (S.puzzle_of rules.now.set)) (board_in self.old) }
         requires house_in { house < (S.system (S.puzzle_of rules.now.set)).houses }
         ensures step { IsStep (S.system (S.puzzle_of rules.now.set)) house self.old self.new
             result }
-        ensures along { IsAlong (S.system (S.puzzle_of rules.now.set)) self.new }
+        ensures along { IsAlong (S.Notes.noted (S.puzzle_of rules.now.set))
+            (S.system (S.puzzle_of rules.now.set)) self.new }
         ensures onward { GoesOn self.old self.new }
     {
         dequeue(&mut self.waits, house);
         let board = self.trailed.board();
-        let (sets, kept) = (&mut self.sets, &mut self.kept);
-        if !rules.filter(house, board, sets, kept, &mut self.work) {
+        let Some(count) = self.notes.visit(rules, house, board, &mut self.work) else {
+            return true;
+        };
+        if count == 0 {
             return false;
         }
         let before = self.trailed.len();
-        let places = rules.places(house);
-        let (sets, kept) = (&self.sets[..places.len()], &self.kept[..places.len()]);
-        if self.trailed.strike(rules, house, places, sets, kept) {
+        if self.trailed.strike(rules, house, &self.notes, count) {
             return true;
         }
         let waits: &mut [u64] = &mut self.waits;
@@ -120,6 +97,7 @@ impl<S: RuleSet> TrailPosition<S> {
             rules,
             &self.trailed,
             before,
+            &mut self.notes,
             waits,
             &mut self.first,
             notes_last,
@@ -131,7 +109,8 @@ impl<S: RuleSet> TrailPosition<S> {
     /// Where to go on after a visit of the house: at the house after it, or at one in which a cell has got its last value, if
     /// these come first.
     fn next_from(&mut self, rules: &HouseRules<S>, house: usize, singles_first: bool) -> usize
-        requires along { IsAlong (S.system (S.puzzle_of rules.now.set)) self.old }
+        requires along { IsAlong (S.Notes.noted (S.puzzle_of rules.now.set))
+            (S.system (S.puzzle_of rules.now.set)) self.old }
         requires house_in { house < (S.system (S.puzzle_of rules.now.set)).houses }
         ensures same { self.new ≡ self.old }
         ensures within { result ≤ (S.system (S.puzzle_of rules.now.set)).houses }
@@ -148,14 +127,16 @@ impl<S: RuleSet> TrailPosition<S> {
     /// the last house it begins again. At first each house waits that strikes anything; it may be more. Houses in which a cell
     /// gets its last value can come first. With many values they do so once it has begun again.
     fn run(&mut self, rules: &HouseRules<S>, mut singles_first: bool) -> Taken
-        requires along { IsAlong (S.system (S.puzzle_of rules.now.set)) self.old }
+        requires along { IsAlong (S.Notes.noted (S.puzzle_of rules.now.set))
+            (S.system (S.puzzle_of rules.now.set)) self.old }
         requires alive { IsAlive (S.system (S.puzzle_of rules.now.set)) (board_in self.old) }
         requires rested { AreHousesRested (S.system (S.puzzle_of rules.now.set)) self.old }
         ensures taken { IsTaken (S.system (S.puzzle_of rules.now.set)) (board_in self.old)
             (board_in self.new) result.closing }
         ensures turns { IsClosedIn (S.system (S.puzzle_of rules.now.set)) (board_in self.old)
             result.turns }
-        ensures along { IsAlong (S.system (S.puzzle_of rules.now.set)) self.new }
+        ensures along { IsAlong (S.Notes.noted (S.puzzle_of rules.now.set))
+            (S.system (S.puzzle_of rules.now.set)) self.new }
         ensures onward { GoesOn self.old self.new }
     {
         let is_many = rules.values() > FEW_VALUES;
@@ -179,20 +160,20 @@ impl<S: RuleSet> TrailPosition<S> {
     }
 }
 
-impl<S: RuleSet> Position<HouseRules<S>> for TrailPosition<S> {
+impl<S: Noted> Position<HouseRules<S>> for TrailPosition<S> {
     ghost stands = { λ s. standing_of s };
 
     ghost room = { λ s. record { needs = s.made; trail = length s.trail.changes } };
 
-    ghost walks = { λ rules s. IsTrailUnderWay (S.system (S.puzzle_of rules.set)) s };
+    ghost walks = { λ rules s. IsTrailUnderWay (S.Notes.noted (S.puzzle_of rules.set))
+        (S.system (S.puzzle_of rules.set)) s };
 
     fn new(alloc: Global, rules: &HouseRules<S>) -> Result<TrailPosition<S>, AllocError> {
         let made = needs_for(rules);
         Ok(TrailPosition {
             made,
             work: rules.set.scratch(alloc)?,
-            sets: Fixed::copies(alloc, 0u32, made.scope)?,
-            kept: Fixed::copies(alloc, 0u32, made.scope)?,
+            notes: Notes::new(alloc, rules)?,
             waits: Fixed::copies(alloc, 0u64, made.houses / 64 + 1)?,
             first: Fixed::copies(alloc, 0u64, made.houses / 64 + 1)?,
             trailed: TrailedBoard::new(alloc, made.cells, made.values)?,
@@ -209,6 +190,7 @@ impl<S: RuleSet> Position<HouseRules<S>> for TrailPosition<S> {
 
     fn begin(&mut self, rules: &HouseRules<S>) {
         self.trailed.start(rules);
+        self.notes.begin(rules, self.trailed.board());
     }
 
     fn close(&mut self, rules: &HouseRules<S>, from: Option<usize>) -> Taken {
@@ -233,10 +215,11 @@ impl<S: RuleSet> Position<HouseRules<S>> for TrailPosition<S> {
 
     fn leave(&mut self, rules: &HouseRules<S>, cell: usize, value: u8) {
         self.trailed.leave_one(rules, cell, value);
+        self.notes.single(rules, cell, self.trailed.board());
     }
 
-    fn undo(&mut self, _rules: &HouseRules<S>, mark: usize) {
-        self.trailed.undo(mark);
+    fn undo(&mut self, rules: &HouseRules<S>, mark: usize) {
+        put_back(rules, &mut self.notes, &mut self.trailed, mark);
     }
 
     fn accept(&mut self, rules: &HouseRules<S>, grid: &mut Grid) -> bool {

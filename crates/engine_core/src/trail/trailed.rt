@@ -2,8 +2,11 @@
 #![tactic(auto, using(crate::proofs::LawSets::trail_laws))]
 
 ghost use Rattle.std.specs.Prelude.{◌≡◌, ◌≢◌, ℕ, ◌+◌, ◌*◌, ◌<◌, ◌≤◌, IfOk, bit_and, length, true, false};
-ghost use Rattle.engine_core.specs.Common.{has, cells_of, SameShape, IsInside, count_below, only, max_cells, max_values, IsAlive, IsDeadAfter, KeepsChanges, AreSetsOf, IsKept, IsBoardOf, after, IsBitsOf, back_at, change_at, left_by, IsTrailLonger, IsTrailBack, IsHouseStruck};
+ghost use Rattle.engine_core.specs.Common.{has, cells_of, SameShape, IsInside, count_below, only, max_cells, max_values, IsAlive, IsDeadAfter, KeepsChanges, IsBoardOf, IsMarkedOut, needs_of, IsBitsOf, back_at, change_at, left_by, IsTrailLonger, IsTrailBack, IsHouseStruck};
 
+use crate::house_rules::HouseRules;
+use crate::notes::Notes;
+use crate::rule_set::RuleSet;
 use crate::rules::Rules;
 use grid_core::{Board, Fixed};
 use std::alloc::{AllocError, Global};
@@ -84,35 +87,39 @@ impl TrailedBoard {
         self.len = 0;
     }
 
-    /// Leaves of each cell of the house what is kept of its set, and notes what those had that lost a value. Says whether one
-    /// would lose its last: it stops there.
-    pub(crate) fn strike<R: Rules>(
+    /// Strikes what a visit of the house marked out, and notes what those cells had that lost a value. Says whether one would
+    /// lose its last: it stops there.
+    pub(crate) fn strike<S: RuleSet, N: Notes<S>>(
         &mut self,
-        rules: &R,
+        rules: &HouseRules<S>,
         house: usize,
-        places: &[u32],
-        sets: &[u32],
-        kept: &[u32],
+        notes: &N,
+        count: usize,
     ) -> bool
-        requires house_in { house < (R.system rules.now).houses }
-        requires places { places.now ≡ (R.system rules.now).scope house }
-        requires board_of { IsBoardOf (R.system rules.now) self.old.board }
-        requires alive { IsAlive (R.system rules.now) (has self.old.board) }
-        requires sets { AreSetsOf (R.system rules.now) house (has self.old.board) sets.now }
-        requires kept { IsKept (R.system rules.now) house (has self.old.board) true kept.now }
-        requires as_many { length kept.now ≡ length sets.now }
-        ensures dead { result ≡ true → IsDeadAfter (R.system rules.now) house (has self.old.board) }
+        requires house_in { house < (S.system (S.puzzle_of rules.now.set)).houses }
+        requires made { N.made_for notes.now (needs_of (S.system (S.puzzle_of rules.now.set))) }
+        requires board_of { IsBoardOf (S.system (S.puzzle_of rules.now.set)) self.old.board }
+        requires alive { IsAlive (S.system (S.puzzle_of rules.now.set)) (has self.old.board) }
+        requires marked { IsMarkedOut (S.system (S.puzzle_of rules.now.set)) house
+            (has self.old.board) count (N.numbers notes.now) (N.kept_at notes.now house) }
+        ensures dead { result ≡ true
+            → IsDeadAfter (S.system (S.puzzle_of rules.now.set)) house (has self.old.board) }
         ensures struck { result ≡ false
-            → IsHouseStruck (R.system rules.now) house self.old self.new }
+            → IsHouseStruck (S.system (S.puzzle_of rules.now.set)) house self.old self.new }
+        ensures alive { IsAlive (S.system (S.puzzle_of rules.now.set)) (has self.new.board) }
         ensures further { IsTrailLonger self.old self.new }
     {
-        for k in 0..sets.len() {
-            let left = sets[k] & kept[k];
-            if left != sets[k] {
+        let (places, kept) = (rules.places(house), notes.kept(rules, house));
+        for i in 0..count {
+            let k = notes.number(i);
+            let place = places[k] as usize;
+            let had = self.board.bits(place);
+            let left = had & kept[k];
+            if left != had {
                 if left == 0 {
                     return true;
                 }
-                self.leave(rules, places[k] as usize, sets[k], left);
+                self.leave(rules, place, had, left);
             }
         }
         false

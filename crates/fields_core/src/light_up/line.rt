@@ -22,7 +22,7 @@ pub(crate) struct WhiteLine<'a> {
 }
 
 impl<'a> WhiteLine<'a> {
-    ghost use Rattle.fields_core.specs.Common.{IsAround, IsLine, RunsOn, line_cells, segment_places, whites_of};
+    ghost use Rattle.fields_core.specs.Common.{IsAround, IsLine, RunsOn, cells_along, segment_places, whites_of};
 
     /// The row of that number.
     pub(crate) fn row(puzzle: &'a LightPuzzle, y: usize) -> WhiteLine<'a>
@@ -90,7 +90,7 @@ impl<'a> WhiteLine<'a> {
     pub(crate) fn segment(&self, from: usize, to: usize) -> Segment
         requires low { from ≤ to }
         requires high { to ≤ self.now.len }
-        ensures { segment_places result ≡ line_cells self.now.first self.now.stride from to }
+        ensures { segment_places result ≡ cells_along self.now.first self.now.stride from to }
     {
         Segment::of(self.first + from * self.stride, self.stride, to - from)
     }

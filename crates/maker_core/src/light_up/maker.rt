@@ -3,7 +3,7 @@
 ghost use Rattle.std.specs.Prelude.{◌≡◌, ◌≤◌, ◌↔◌, true, IsTrue, IfErr, IfOk};
 ghost use Rattle.gameid_core.specs.Puzzles.{IsWide};
 ghost use Rattle.maker_core.specs.Draws.{AreAll, LeavesGenerator};
-ghost use Rattle.maker_core.specs.LightMaking.{IsLit, light_passes, rules_filled, IsLightUnmade, MakesLights, light_tries};
+ghost use Rattle.maker_core.specs.LightMaking.{IsLit, light_passes, light_rules_filled, IsLightUnmade, MakesLights, light_tries};
 ghost use Rattle.maker_core.specs.Made.{HasOne};
 
 use crate::light_up::filling::{LightFilling, fill_lights, puzzle_of};
@@ -39,7 +39,7 @@ impl Fillings for LitGrids {
     ghost tries = { λ t. light_tries t.size t.black t.limits };
 
     ghost known = { λ t filling passes. IsLit t.size filling
-        × (passes ≡ true → HasOne (rules_filled t.size filling) t.limits.budget)
+        × (passes ≡ true → HasOne (light_rules_filled t.size filling) t.limits.budget)
         × (t.black ≡ 100 → passes ≡ true) };
 
     fn draw<G: Rng>(&self, alloc: Global, rng: &mut G) -> Result<(LightFilling, bool), AllocError> {
@@ -61,7 +61,7 @@ fn is_alone(
     requires lit { IsLit size filling.now }
     ensures verdict { IfOk result (λ alone. alone ≡ light_passes size budget filling.now) }
     ensures only { IfOk result
-        (λ yes. yes ≡ true → HasOne (rules_filled size filling.now) budget) }
+        (λ yes. yes ≡ true → HasOne (light_rules_filled size filling.now) budget) }
     ensures full { IfOk result (λ alone. AreAll 1 filling.now.black → alone ≡ true) }
 {
     let puzzle = puzzle_of(alloc, size, filling)?;

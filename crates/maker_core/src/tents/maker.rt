@@ -4,7 +4,7 @@ ghost use Rattle.std.specs.Prelude.{◌≡◌, ◌↔◌, ◌*◌, true, IsTrue,
 ghost use Rattle.grid_core.specs.Grids.{IsGrid};
 ghost use Rattle.maker_core.specs.Draws.{LeavesGenerator};
 ghost use Rattle.maker_core.specs.Made.{HasOne};
-ghost use Rattle.maker_core.specs.TentMaking.{IsSolvedFilling, rules_filled, tents_pass, tents_puzzle_of, IsTentSize, IsTentsUnmade, MakesTents, tents_tries};
+ghost use Rattle.maker_core.specs.TentMaking.{IsSolvedFilling, tent_rules_filled, tents_pass, tents_puzzle_of, IsTentSize, IsTentsUnmade, MakesTents, tents_tries};
 
 use crate::made::{Limits, Made, MakeFault};
 use crate::tents::filling::{TentFilling, fill_tents};
@@ -49,7 +49,7 @@ impl Fillings for TentFillings {
 
     ghost known = { λ t filling passes. IsGrid (t.size.w * t.size.h) 2 filling.trees
         × IsGrid (t.size.w * t.size.h) 2 filling.tents × IsSolvedFilling t.size filling
-        × (passes ≡ true → HasOne (rules_filled t.size filling) t.limits.budget) };
+        × (passes ≡ true → HasOne (tent_rules_filled t.size filling) t.limits.budget) };
 
     fn draw<G: Rng>(&self, alloc: Global, rng: &mut G) -> Result<(TentFilling, bool), AllocError> {
         let filling = fill_tents(alloc, rng, self.size)?;
@@ -71,7 +71,7 @@ fn is_alone(
     requires tents { IsGrid (size.w * size.h) 2 filling.now.tents }
     ensures verdict { IfOk result (λ alone. alone ≡ tents_pass size budget filling.now) }
     ensures only { IfOk result
-        (λ yes. yes ≡ true → HasOne (rules_filled size filling.now) budget) }
+        (λ yes. yes ≡ true → HasOne (tent_rules_filled size filling.now) budget) }
 {
     let puzzle = puzzle_of(alloc, size, filling)?;
     let rules = TentRules::new(alloc, &puzzle)?;

@@ -1,13 +1,15 @@
 //! What a visit of a house keeps: the values that fillings without repeat have.
 
-ghost use Rattle.std.specs.Prelude.{◌≡◌, ℕ, ◌<◌, ◌≤◌, ◌&&◌, false, length, true};
+ghost use Rattle.std.specs.Prelude.{◌≡◌, ℕ, ◌<◌, ◌≤◌, ◌&&◌, IfNone, IfSome, Some, false, length, replicate, true};
 ghost use Rattle.grid_core.specs.Candidates.{max_values};
 ghost use Rattle.solo_core.specs.Common.{has_bit as is_set, has_in};
-ghost use Rattle.solo_core.specs.PeeledHouses.{AreLone, IsPaired, IsRest, KeepsFillings, KeepsOthers, KeepsReaching};
+ghost use Rattle.solo_core.specs.PeeledHouses.{AreLone, AreMetOutside, AreSettledBut, IsPaired, IsRest, KeepsFillings, KeepsOthers, KeepsReaching};
+ghost use Rattle.solo_core.specs.OpenHouses.{IsOpenHouse, ListsBits};
 
 use crate::visits::bits::{next_bit, others_below, with_bit_if};
 use crate::visits::graph::MANY;
 use crate::visits::mates::pair_rest;
+use crate::visits::open::OpenHouse;
 use crate::visits::peel::{are_whole, peel};
 use crate::visits::reach::{close_under_steps, write_leads};
 use crate::visits::settle::{settle, strike_settled};
@@ -36,38 +38,96 @@ pub(crate) fn keep_houses(values: u8, sets: &[u32], kept: &mut [u32], pairing: &
     let mut others = [0u8; MANY];
     let (settled, count) = settle(values, sets, kept, &mut others);
     let rest: &[u8] = &others[..count];
+    match keep_settled(values, settled, rest, kept, pairing) {
+        Some(is_struck) => is_struck,
+        None => {
+            kept.fill(0);
+            true
+        }
+    }
+}
+
+/// Decides what is kept of the sets of a house in which these cells and values are open. The rest are the open cells. Says
+/// whether anything may be struck, or that no filling without repeat is left.
+pub(crate) fn keep_open(
+    values: u8,
+    house: OpenHouse,
+    rest: &[u8],
+    kept: &mut [u32],
+    pairing: &mut Pairing,
+) -> Option<bool>
+    requires few { values ≤ max_values }
+    requires square { length kept.old ≡ values }
+    requires house { IsOpenHouse (has_in kept.old) values house }
+    requires rest { ListsBits house.cells rest.now }
+    requires rest_few { length rest.now ≤ values }
+    requires room { values ≤ pairing.old.room }
+    ensures decided { IfSome result (λ is_struck. KeepsFillings values kept.old kept.new) }
+    ensures same { result ≡ Some false → kept.new ≡ kept.old }
+    ensures none { IfNone result (KeepsFillings values kept.old (replicate values 0)) }
+    ensures others { KeepsOthers rest.now kept.old kept.new }
+    ensures room { pairing.new.room ≡ pairing.old.room }
+{
+    let closed = others_below(values, house.values);
+    keep_settled(values, closed, rest, kept, pairing)
+}
+
+/// The same of a house in which all cells but the rest are settled, and have these values.
+fn keep_settled(
+    values: u8,
+    settled: u32,
+    rest: &[u8],
+    kept: &mut [u32],
+    pairing: &mut Pairing,
+) -> Option<bool>
+    requires few { values ≤ max_values }
+    requires square { length kept.old ≡ values }
+    requires settled { AreSettledBut values kept.old rest.now (length kept.old) settled }
+    requires room { values ≤ pairing.old.room }
+    ensures decided { IfSome result (λ is_struck. KeepsFillings values kept.old kept.new) }
+    ensures same { result ≡ Some false → kept.new ≡ kept.old }
+    ensures none { IfNone result (KeepsFillings values kept.old (replicate values 0)) }
+    ensures others { KeepsOthers rest.now kept.old kept.new }
+    ensures room { pairing.new.room ≡ pairing.old.room }
+{
     let (counts, is_struck) = strike_settled(values, settled, rest, kept);
     if counts.are_open() {
         let lone = peel(values, counts, settled, rest, kept);
-        if !are_whole(values, lone, rest, kept) {
-            keep_others(values, lone, rest, kept, pairing);
-        }
-        return true;
+        return keep_unless_whole(values, lone, rest, kept, true, pairing);
     }
-    if are_whole(values, settled, rest, kept) {
-        return is_struck;
-    }
-    keep_others(values, settled, rest, kept, pairing) || is_struck
+    keep_unless_whole(values, settled, rest, kept, is_struck, pairing)
 }
 
 /// Decides what is kept of a house in which these values are those of cells that are alone. Says whether anything may be
-/// struck.
-fn keep_others(values: u8, lone: u32, rest: &[u8], kept: &mut [u32], pairing: &mut Pairing) -> bool
+/// struck, or was before, or that no filling without repeat is left.
+fn keep_unless_whole(
+    values: u8,
+    lone: u32,
+    rest: &[u8],
+    kept: &mut [u32],
+    is_struck: bool,
+    pairing: &mut Pairing,
+) -> Option<bool>
     requires few { values ≤ max_values }
     requires square { length kept.old ≡ values }
     requires lone { AreLone values kept.old lone }
     requires rest { IsRest values kept.old rest.now }
+    requires outside { AreMetOutside kept.old rest.now lone }
     requires room { values ≤ pairing.old.room }
-    ensures decided { KeepsFillings values kept.old kept.new }
-    ensures same { result ≡ false → kept.new ≡ kept.old }
+    ensures decided { IfSome result (λ b. KeepsFillings values kept.old kept.new) }
+    ensures same { result ≡ Some false → (kept.new ≡ kept.old) × (is_struck ≡ false) }
+    ensures none { IfNone result (KeepsFillings values kept.old (replicate values 0)) }
+    ensures others { KeepsOthers rest.now kept.old kept.new }
     ensures room { pairing.new.room ≡ pairing.old.room }
 {
+    if are_whole(values, lone, rest, kept) {
+        return Some(is_struck);
+    }
     let mut paired = ArrayVec::new();
     if !pair_rest(values, kept, rest, pairing, &mut paired) {
-        kept.fill(0);
-        return true;
+        return None;
     }
-    keep_paired(values, lone, rest, &paired, kept)
+    Some(keep_paired(values, lone, rest, &paired, kept) || is_struck)
 }
 
 /// Decides what is kept of a house in which these values are those of cells that are alone, and the rest is paired. Says
@@ -80,6 +140,7 @@ fn keep_paired(values: u8, lone: u32, rest: &[u8], paired: &[u8], kept: &mut [u3
     requires paired { IsPaired values kept.old rest.now paired.now }
     ensures decided { KeepsFillings values kept.old kept.new }
     ensures same { result ≡ false → kept.new ≡ kept.old }
+    ensures others { KeepsOthers rest.now kept.old kept.new }
 {
     let mut reach_space = [0u32; MANY];
     let reach = &mut reach_space[..usize::from(values)];

@@ -29,6 +29,7 @@ pub(crate) fn peel(values: u8, counted: Counts, settled: u32, rest: &[u8], sets:
     ensures lone { AreLone values sets.new result }
     ensures outside { AreMetOutside sets.new rest.now result }
     ensures rest { IsRest values sets.new rest.now }
+    ensures others { KeepsOthers rest.now sets.old sets.new }
 {
     let mut counts = counted;
     for _turn in 0..sets.len() {

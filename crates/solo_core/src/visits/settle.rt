@@ -3,7 +3,7 @@
 
 ghost use Rattle.std.specs.Prelude.{◌≡◌, ◌≤◌, false, if◌then◌else◌, length, take};
 ghost use Rattle.grid_core.specs.Candidates.{max_values};
-ghost use Rattle.solo_core.specs.PeeledHouses.{AreAllCounts, AreLone, AreMetOutside, AreSettledBut, AreSettledCells, IsPeeled, IsRest};
+ghost use Rattle.solo_core.specs.PeeledHouses.{AreAllCounts, AreLone, AreMetOutside, AreSettledBut, AreSettledCells, IsPeeled, IsRest, KeepsOthers};
 
 use crate::visits::bits::{all_below, others_below};
 use crate::visits::peel::Counts;
@@ -63,6 +63,7 @@ pub(crate) fn strike_settled(
     ensures lone { AreLone values sets.new settled }
     ensures outside { AreMetOutside sets.new rest.now settled }
     ensures same { result.1 ≡ false → sets.new ≡ sets.old }
+    ensures others { KeepsOthers rest.now sets.old sets.new }
 {
     let others = others_below(values, settled);
     let mut counts = Counts::of_settled(settled);

@@ -6,8 +6,10 @@ docs/USE.md tells the calls, and tests/page tries them. Ctrl-C ends it.
 import argparse
 import collections
 import contextlib
+import gzip
 import hashlib
 import http.server
+import ipaddress
 import json
 import os
 import re
@@ -36,12 +38,25 @@ KINDS = {".html": "text/html; charset=utf-8", ".css": "text/css", ".js": "text/j
          ".png": "image/png", ".webmanifest": "application/manifest+json"}
 FILES = {str(path.relative_to(WEB)): path.read_bytes() for path in WEB.rglob("*") if path.suffix in KINDS}
 TAGS = {name: f'"{hashlib.sha256(body).hexdigest()[:16]}"' for name, body in FILES.items()}
+PACKED = {name: gzip.compress(body, mtime=0) for name, body in FILES.items() if not name.endswith(".png")}
 HEADERS = {
     "Content-Security-Policy": "default-src 'none'; script-src 'self'; style-src 'self'; img-src 'self'; connect-src 'self'; "
                                "worker-src 'self'; manifest-src 'self'; base-uri 'none'; form-action 'none'; "
                                "frame-ancestors 'none'",
     "X-Content-Type-Options": "nosniff", "Referrer-Policy": "no-referrer",
+    "Cross-Origin-Resource-Policy": "same-origin", "Cross-Origin-Opener-Policy": "same-origin",
 }
+
+
+def visitor(headers):
+    """Whom the server in front names: the last of all that is said, and of IPv6 the network of 64 bits, which is one visitor's."""
+    said = headers.get_all("X-Forwarded-For", [""])[-1].rpartition(",")[2].strip()
+    try:
+        address = ipaddress.ip_address(said.strip("[]"))
+    except ValueError:
+        return said
+    mapped = getattr(address, "ipv4_mapped", None)
+    return str(mapped or (ipaddress.ip_network((address, 64), strict=False) if address.version == 6 else address))
 
 
 class Page(http.server.BaseHTTPRequestHandler):
@@ -55,10 +70,13 @@ class Page(http.server.BaseHTTPRequestHandler):
             return self.send_error(421)
         if name not in FILES:
             return self.send_error(404)
-        more = {"ETag": TAGS[name], "Cache-Control": "no-cache"}  # a browser asks whether its copy is still good
-        if self.headers.get("If-None-Match") == TAGS[name]:
-            return self.reply(304, b"", KINDS[Path(name).suffix], more)
-        return self.reply(200, FILES[name], KINDS[Path(name).suffix], more)
+        kind, is_packed = KINDS[Path(name).suffix], name in PACKED and "gzip" in self.headers.get("Accept-Encoding", "")
+        tag = TAGS[name].replace('"', '"z', 1) if is_packed else TAGS[name]
+        more = {"ETag": tag, "Cache-Control": "no-cache", "Vary": "Accept-Encoding"}  # a browser asks if its copy is still good
+        if self.headers.get("If-None-Match") == tag:
+            return self.reply(304, b"", kind, more)
+        packed = {"Content-Encoding": "gzip"} if is_packed else {}
+        return self.reply(200, PACKED[name] if is_packed else FILES[name], kind, {**more, **packed})
 
     do_HEAD = do_GET
 
@@ -67,8 +85,7 @@ class Page(http.server.BaseHTTPRequestHandler):
         try:
             asked = fields(call, self.body(call))
             self.server.waiting.pop(self.request, None)
-            visitor = self.headers.get("X-Forwarded-For", "").rpartition(",")[2].strip()
-            with self.server.turns.turn(visitor):
+            with self.server.turns.turn(visitor(self.headers)):
                 status, parts = 200, self.server.calls.answer(call, asked)
         except Refused as refused:
             status, parts = refused.args[0], {"refused": refused.args[1]}

@@ -1,7 +1,7 @@
 //! Which houses of Tents wait to be visited.
 
 ghost use Rattle.std.specs.Prelude.{◌≡◌};
-ghost use Rattle.fields_core.specs.Common.{AreTentsRested, AreTentsSettled, AreTentsWoken, AreWaitingLines, Candidates, HasBoard, IsClosedBut, IsSuited, IsTents, Tents, has, tent_rules, waiting};
+ghost use Rattle.fields_core.specs.Common.{AreTentsRested, AreTentsSettled, AreTentsWoken, AreWaitingLines, Candidates, HasBoard, IsClosedBut, IsSuited, IsTents, Tents, has, tent_rules, waits_of};
 
 use gameid_core::TentsPuzzle;
 use grid_core::{Planes, Touched, Word};
@@ -31,7 +31,7 @@ pub struct TentWaits<W> {
 impl<W: Word> TentWaits<W> {
     /// At these lines all kinds wait.
     fn at(lines: W) -> TentWaits<W>
-        ensures { (kind : Kind) → waiting W.bits result kind ≡ W.bits lines }
+        ensures { (kind : Kind) → waits_of W.bits result kind ≡ W.bits lines }
     {
         TentWaits {
             columns: lines,

@@ -12,7 +12,11 @@ loop-turn-preserved c =
       counts = n.counts;
       settled = settled-peeled c.args.rest.now n.peeled n.others i.settled;
       rest = rest-peeled n.peeled n.others i.rest;
+      others = λ k out. n.others k out ∙ i.others k out;
     }
+
+pub returns-then-is_same-clause-others : goal.returns-then-is_same-clause-others
+returns-then-is_same-clause-others c = λ k out. c.narrow_all-narrowed.ensures.others k out ∙ c.loop-turn.invariant.others k out
 
 pub returns-then-is_same-clause-peeled : goal.returns-then-is_same-clause-peeled
 returns-then-is_same-clause-peeled c = peeled-more c.loop-turn.invariant.peeled c.narrow_all-narrowed.ensures.peeled

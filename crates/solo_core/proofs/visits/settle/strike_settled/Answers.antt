@@ -55,3 +55,6 @@ returns-clause-lone c = rest-lone (settled-rest c.requires.settled (narrowed c) 
 
 pub returns-clause-outside : goal.returns-clause-outside
 returns-clause-outside c = rest-met (settled-rest c.requires.settled (narrowed c) (free c)) (settled c) c.args.settled (λ v on. on)
+
+pub returns-clause-others : goal.returns-clause-others
+returns-clause-others c = (narrowed c).others

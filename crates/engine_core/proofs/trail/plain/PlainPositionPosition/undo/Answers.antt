@@ -9,6 +9,7 @@ returns-clause-walks g c =
           record {
             fits = r.walks.along.fits;
             board_of = IsBoardOf-same r.walks.along.board_of c.undo.ensures.shape;
+            noted = tt;
           };
       inside = rw c.undo.ensures.here r.inside;
     }

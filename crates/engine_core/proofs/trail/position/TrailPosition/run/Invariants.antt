@@ -9,7 +9,7 @@ invariant-loop-house g l =
       visits : List ℕ;
       counted : length visits ≡ l.turns;
       running : IsRunning p (board_in l.fn.self) visits (board_in l.self) (is_waiting l.self.waits);
-      along : IsAlong p l.self;
+      along : IsAlong (g.S.Notes.Notes.noted (g.S.RuleSet.puzzle_of l.rules.set)) p l.self;
       onward : GoesOn l.fn.self l.self;
     }
 

@@ -8,7 +8,8 @@ returns-clause-walks g c =
       along =
           record {
             fits = r.walks.along.fits;
-            board_of = IsBoardOf-same r.walks.along.board_of c.undo.ensures.shape;
+            board_of = IsBoardOf-same r.walks.along.board_of c.put_back.ensures.back.shape;
+            noted = c.put_back.ensures.noted;
           };
-      inside = rw c.undo.ensures.here r.inside;
+      inside = rw c.put_back.ensures.back.here r.inside;
     }
