@@ -25,12 +25,12 @@ CLOSING = re.compile(r"^(\d+) passed, (\d+) failed$", re.M)
 APT_SECONDS = 900
 CORES = os.cpu_count() or 1
 SHOWN = 4000  # letters of what a failed part wrote
-COMMIT = "commit that git can read"
+COMMIT, MYPY = "commit that git can read", "mypy 1.0"  # Debian 12's; another one finds other faults
 SCRIPTS = {  # words behind python/run, or of Python itself, and what it needs: programs, or files that were built
     "promises": (["tests/tree/promises.py"], []),
     "documents": (["tests/tree/documents.py"], []),
     "types": (["tests/tree/search_types.py"], ["rt", COMMIT]),
-    "mypy": (["-m", "mypy", "--cache-dir", os.devnull, "--config-file", "python/mypy.ini"], ["mypy"]),
+    "mypy": (["-m", "mypy", "--cache-dir", os.devnull, "--config-file", "python/mypy.ini"], [MYPY]),
     "growths": (["tests/program/refuse_growths.py", "PROGRAM"], ["cc"]),
     "memory": (["tests/program/search_memory.py", "PROGRAM"], ["cc"]),
     "library": (["tests/library/library.py", "--puzzles=300", "--calls=20000", "--built=BUILT", "PROGRAM"],
@@ -53,6 +53,12 @@ def python():
 
 def has_module(name, of=sys.executable):
     return not subprocess.run([of, "-c", f"import {name}"], capture_output=True, check=False, cwd=os.sep).returncode
+
+
+def rooms():
+    """How many checks of the kit have room in memory, with some 4 GB for each, but not more than there are cores."""
+    free = re.search(r"^MemAvailable:\s+(\d+)", pathlib.Path("/proc/meminfo").read_text(), re.M)
+    return max(1, min(CORES, int(free[1]) // 4_000_000 if free else 1))
 
 
 def is_program(name):
@@ -124,6 +130,9 @@ class Gate:
         if probe == COMMIT:
             words = ["git", "-C", str(TOP), "rev-parse", "--verify", "HEAD"]
             return bool(shutil.which("git")) and not subprocess.run(words, capture_output=True, check=False).returncode
+        if probe == MYPY:
+            words = [self.python, "-m", "mypy", "--version"]
+            return subprocess.run(words, capture_output=True, text=True, check=False).stdout.startswith(MYPY)
         return is_program(probe) or (self.built / probe).is_file()
 
     def missing(self, name, probes):
@@ -171,8 +180,8 @@ class Gate:
         parts = [part for part, probes in {"so": ["cc"], "wasm": ["wasm-ld", "wasm-opt"]}.items()
                  if not self.missing(f"library/build.py {part}", ["rt", *probes])]
         if parts:
-            status, wrote = self.run("build", BUILD_SECONDS, [sys.executable, "library/build.py", f"--to={self.built}",
-                                                              f"--jobs={CORES}", *parts])
+            words = [sys.executable, "library/build.py", f"--to={self.built}", f"--jobs={rooms()}", *parts]
+            status, wrote = self.run("build", BUILD_SECONDS, words)
             if status:
                 self.failed.append(f"library/build.py: status {status}")
                 self.show("build", wrote)
