@@ -27,6 +27,8 @@ def pytest_configure():
 
 def is_there(tool):
     """Whether there is a program of this name, or a module as import:NAME, or a commit that git can read."""
+    if tool in os.environ.get("ABSENT", "").split():  # the gate couldn't install it wholly
+        return False
     if tool == "a commit":
         words = ["git", "-C", TOP, "rev-parse", "-q", "--verify", "HEAD"]
         return not subprocess.run(words, capture_output=True, check=False).returncode

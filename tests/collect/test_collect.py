@@ -147,7 +147,8 @@ def test_stopped(bench):
     wait_until(lambda: table.exists() and any(row[3] for row in rows_or_none(table)), SECONDS, "no puzzle was graded")
     run.send_signal(2)
     _, errors = run.communicate(timeout=SECONDS)
-    assert run.returncode == 130 and without_progress(errors) == "puzzles-collect: stopped\n", f"status {run.returncode}: {errors}"
+    told = without_progress(errors)
+    assert run.returncode == 130 and told == "puzzles-collect: stopped\n", f"status {run.returncode}: {errors}"
     graded = sum(bool(row[3]) for row in rows(table))
     assert 0 < graded < 3000, f"{graded} graded at its end"
     add(bench, table, "solo", path)

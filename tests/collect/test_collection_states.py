@@ -1,4 +1,4 @@
-"""A collection as a machine of states: whatever happens to its table, it has what the files that were taken and not forgotten say.
+"""A collection as a machine of states: its table has what the files that were taken and not forgotten say, whatever happens.
 
 Hypothesis makes sequences of: a file that is taken, also one that has grown, one that is taken by a run which is killed and begun
 again, and by two runs at once; grading; forgetting; listing. After each the table is compared with a plain list of lines.

@@ -14,7 +14,8 @@ HOW = settings(deadline=None, max_examples=200, derandomize=True, suppress_healt
 
 def light_up(rows):
     """The ID of a Light Up of these rows of signs."""
-    return written(Puzzle("lightup", f"{len(rows[0])}x{len(rows)}", len(rows[0]), len(rows), None, cells=sum(map(list, rows), [])))
+    width, height = len(rows[0]), len(rows)
+    return written(Puzzle("lightup", f"{width}x{height}", width, height, None, cells=sum(map(list, rows), [])))
 
 
 def solo(rows, tall, wide):
@@ -53,8 +54,8 @@ def moved_solo(draw):
     side = tall * wide
     rows = [[str(n) if (n := draw(st.integers(-4, side))) > 0 else "" for _ in range(side)] for _ in range(side)]
     names = dict(zip(map(str, range(1, side + 1)), draw(st.permutations([str(n) for n in range(1, side + 1)]))))
-    down = [tall * band + row for band in draw(st.permutations(range(side // tall))) for row in draw(st.permutations(range(tall)))]
-    across = [wide * stack + one for stack in draw(st.permutations(range(side // wide))) for one in draw(st.permutations(range(wide)))]
+    down, across = [[step * part + one for part in draw(st.permutations(range(side // step)))
+                     for one in draw(st.permutations(range(step)))] for step in (tall, wide)]
     copy = [[names.get(rows[y][x], "") for x in across] for y in down]
     if draw(st.booleans()):
         return solo(rows, tall, wide), solo([*map(list, zip(*copy))], wide, tall)
