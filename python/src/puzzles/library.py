@@ -12,14 +12,14 @@ GAMES = ("solo", "pattern", "lightup", "tents")
 BLACK = {"pattern": 50, "lightup": 20}  # per cent, as the program has it
 NO_MEMORY, TOO_SMALL = 5, 7
 REFUSED = (2, b"refused: words\n")
-FIRST_ROOM = 1 << 16
+FIRST_ROOM = 80_057  # the most bytes of an answer, but for many lines and for a trace
 Answer = Tuple[int, bytes]
 
 TEXT, BYTE, WORD = (ctypes.c_char_p, ctypes.c_size_t), ctypes.c_uint8, ctypes.c_uint64
 OUTPUT = (ctypes.c_char_p, ctypes.c_size_t, ctypes.POINTER(ctypes.c_size_t))
 CALLS = {
     "solve": (BYTE, *TEXT, WORD), "solve_each": (BYTE, *TEXT, WORD), "check": (BYTE, *TEXT, *TEXT),
-    "grade": (BYTE, *TEXT, WORD, ctypes.c_bool), "generate": (BYTE, *TEXT, WORD, WORD, ctypes.c_uint32, BYTE),
+    "grade": (BYTE, *TEXT, WORD, BYTE), "generate": (BYTE, *TEXT, WORD, WORD, ctypes.c_uint32, BYTE),
 }
 
 
@@ -28,7 +28,7 @@ def is_number(value: int, kind: Any) -> bool:
 
 
 class Puzzles:
-    """The library. Each call gives the program's status and what it writes; with status 5 or 6, for want of memory, nothing.
+    """The library. Each call gives the program's status and what it writes; with status 5, for want of memory, nothing.
     Texts are bytes. May be used by many threads: each has a room of its own for answers."""
 
     def __init__(self, file: Union[str, "os.PathLike[str]"]):
@@ -49,7 +49,7 @@ class Puzzles:
         return self.answer("check", game, text, len(text), grid, len(grid))
 
     def grade(self, game: str, text: bytes, budget: int = 100_000, traced: bool = False) -> Answer:
-        return self.answer("grade", game, text, len(text), budget, traced)
+        return self.answer("grade", game, text, len(text), budget, bool(traced))
 
     def generate(self, game: str, size: bytes, seed: int, budget: int = 100_000, tries: int = 1_000,
                  black: Optional[int] = None) -> Answer:
@@ -69,7 +69,7 @@ class Puzzles:
             self.mine.room = room
             status = self.calls[name](GAMES.index(game), *words, room, len(room), written)
             if status != TOO_SMALL:
-                return status, room.raw[:written.value] if status < NO_MEMORY else b""
+                return status, ctypes.string_at(room, written.value) if status < NO_MEMORY else b""
             room = ctypes.create_string_buffer(written.value)
 
 
