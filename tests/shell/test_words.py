@@ -1,4 +1,5 @@
 """The manual page and the completions, put where docs/USE.md says."""
+import os
 import re
 import shutil
 
@@ -67,6 +68,17 @@ def offered_by(bench, shell, line, path):
     return re.findall("<([^<>\r\n]+)>", done.stdout)
 
 
+def has_terminal():
+    """Whether there are terminals for programs, which zsh wants."""
+    try:
+        for one in os.openpty():
+            os.close(one)
+    except OSError:
+        return False
+    return True
+
+
+@pytest.mark.skipif(not has_terminal(), reason="no terminal for a program (openpty)")
 def test_completions(bench):
     """bash, zsh and fish find the completions, which offer README's commands, games and options, each where it may stand"""
     path, words = installed(bench), documents.rows("README.md", "## Commands")
