@@ -1,6 +1,11 @@
 """The page on paper: the pictures in what Chromium prints are counted, so that no tree, tent or bulb is lost there."""
 import pytest
 
+try:
+    from urllib3.exceptions import HTTPError
+except ImportError:  # then there is no selenium either
+    HTTPError = OSError
+
 from page import browser, paper
 from page.driver import WebDriverException
 from page.server import Tally
@@ -20,8 +25,8 @@ def test_pictures(server, game, size, more):
                 page.driver.set_page_load_timeout(SECONDS)
                 page.driver.set_script_timeout(SECONDS)
                 paper.counted(page, tally, game, made)
-        except WebDriverException as fault:
-            tally.faults.append(f"{BROKEN} its beginning: {fault.msg}")
+        except (WebDriverException, HTTPError, OSError) as fault:
+            tally.faults.append(f"{BROKEN} its beginning or end: {fault}")
         if not any(fault.startswith(BROKEN) for fault in tally.faults):
             assert not tally.faults, "\n".join(tally.faults)
             return
