@@ -5,7 +5,7 @@ ghost use Rattle.std.specs.Prelude.{refl, true};
 ghost use Rattle.core_tests.specs.Listed.{listed, pairs};
 ghost use Rattle.core_tests.specs.ListedLaws.{listed-lawful};
 
-use engine_core::{HouseList, RuleParts, RuleSet};
+use engine_core::{HouseList, Noted, PlainNotes, RuleParts, RuleSet};
 use grid_core::{Board, Grid};
 use std::alloc::{AllocError, Global};
 
@@ -76,4 +76,8 @@ impl RuleSet for Listed {
     fn accept(&self, _scratch: &mut (), grid: &Grid) -> bool {
         grid.get(0) != grid.get(1) && grid.get(1) != grid.get(2)
     }
+}
+
+impl Noted for Listed {
+    type Notes = PlainNotes;
 }
