@@ -8,7 +8,7 @@ use Rattle.engine_core.specs.RuleSystem.{RuleSystem}
 abbrev pub pairs : List (List ℕ)
 pairs = (0 ∷ 1 ∷ []) ∷ (1 ∷ 2 ∷ []) ∷ []
 
-unfoldable pub are_apart : List ℕ → Bool
+abbrev pub are_apart : List ℕ → Bool
 are_apart g = not (slice_index g 0 == slice_index g 1) && not (slice_index g 1 == slice_index g 2)
 
 abbrev pub listed : RuleSystem

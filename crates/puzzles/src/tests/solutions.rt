@@ -237,8 +237,9 @@ struct Cells {
 
 /// Whether n cells of a grid have each of the numbers from 1 to n.
 fn has_each(numbers: &[u8], n: usize, cells: Cells) -> bool {
-    let (mut seen, along) = (0u64, cells.along.max(1));
+    let (mut seen, mut wanted, along) = (0u64, 0u64, cells.along.max(1));
     for k in 0..n {
+        wanted |= 2 << (k % 63);
         let before = (k / along).saturating_mul(cells.next);
         let offset = (k % along).saturating_mul(cells.step);
         let place = cells.first.saturating_add(before).saturating_add(offset);
@@ -247,7 +248,7 @@ fn has_each(numbers: &[u8], n: usize, cells: Cells) -> bool {
             _ => return false,
         }
     }
-    n < 63 && seen == (2u64 << n) - 2
+    seen == wanted
 }
 
 /// Whether each row, column and block with this number, counted from 0, has each number.
