@@ -10,6 +10,7 @@ import os
 import pathlib
 import re
 import shutil
+import signal
 import subprocess
 import sys
 import tempfile
@@ -21,14 +22,15 @@ HERE = pathlib.Path(__file__).resolve().parent
 TOP = HERE.parent
 PROGRAM = TOP / "crates/puzzles/out/puzzles"
 CLOSING = re.compile(r"^(\d+) passed, (\d+) failed$", re.M)
-APT_SECONDS = 600
+APT_SECONDS = 900
 CORES = os.cpu_count() or 1
 SHOWN = 4000  # letters of what a failed part wrote
-COMMIT = "commit that git can read"
-SCRIPTS = {  # words behind python/run, and what it needs: programs, modules, or files that were built
+COMMIT, MYPY = "commit that git can read", "mypy 1.0"  # Debian 12's; another one finds other faults
+SCRIPTS = {  # words behind python/run, or of Python itself, and what it needs: programs, or files that were built
     "promises": (["tests/tree/promises.py"], []),
     "documents": (["tests/tree/documents.py"], []),
     "types": (["tests/tree/search_types.py"], ["rt", COMMIT]),
+    "mypy": (["-m", "mypy", "--cache-dir", os.devnull, "--config-file", "python/mypy.ini"], [MYPY]),
     "growths": (["tests/program/refuse_growths.py", "PROGRAM"], ["cc"]),
     "memory": (["tests/program/search_memory.py", "PROGRAM"], ["cc"]),
     "library": (["tests/library/library.py", "--puzzles=300", "--calls=20000", "--built=BUILT", "PROGRAM"],
@@ -53,6 +55,12 @@ def has_module(name, of=sys.executable):
     return not subprocess.run([of, "-c", f"import {name}"], capture_output=True, check=False, cwd=os.sep).returncode
 
 
+def rooms():
+    """How many checks of the kit have room in memory, with some 4 GB for each, but not more than there are cores."""
+    free = re.search(r"^MemAvailable:\s+(\d+)", pathlib.Path("/proc/meminfo").read_text(), re.M)
+    return max(1, min(CORES, int(free[1]) // 4_000_000 if free else 1))
+
+
 def is_program(name):
     """Whether a program can be run; a compiler of C finds the C library's headers too."""
     words = ["cc", "-E", "-include", "dlfcn.h", "-x", "c", os.devnull]
@@ -60,36 +68,52 @@ def is_program(name):
 
 
 def lacking():
-    """The packages of .ci/needs whose probe isn't there. One without a probe goes with the line above it."""
-    debian, is_lacking = shutil.which("python3", path=os.defpath), False
+    """Packages of .ci/needs whose probe isn't there, each with its probe. One without a probe goes with the line above it."""
+    debian, probe, is_lacking = shutil.which("python3", path=os.defpath), "", False
     for line in (HERE / "needs").read_text().splitlines():
         if line and not line.startswith("#"):
-            package, probe = line.split()[:2]
-            if probe != "-":
-                is_lacking = not (is_program(probe) or debian and probe.isidentifier() and has_module(probe, debian))
+            package, word = line.split()[:2]
+            if word != "-":
+                probe, module = word, word.removeprefix("import:")
+                is_lacking = not (is_program(probe) if module == probe else debian and has_module(module, debian))
             if is_lacking:
-                yield package
+                yield package, probe
+
+
+def apt_get(end, *words):
+    """Whether apt-get does something before a moment; else it is ended with what it began."""
+    how = ["apt-get", "-q", "-y", "-o", "Acquire::Retries=1", "-o", "Acquire::http::Timeout=20", "-o", "DPkg::Lock::Timeout=60",
+           "-o", "Dpkg::Options::=--force-unsafe-io"]
+    child = subprocess.Popen([*how, *words], stdin=subprocess.DEVNULL, stdout=subprocess.DEVNULL, stderr=subprocess.DEVNULL,
+                             env={**os.environ, "DEBIAN_FRONTEND": "noninteractive"}, start_new_session=True)
+    try:
+        return not child.wait(max(end - time.monotonic(), 1))
+    except subprocess.TimeoutExpired:
+        os.killpg(child.pid, signal.SIGKILL)
+        child.wait()
+        return False
+
+
+def is_installed(package):
+    words = ["dpkg-query", "-W", "-f", "${db:Status-Abbrev}", package]
+    return subprocess.run(words, capture_output=True, text=True, check=False).stdout.startswith("ii")
 
 
 def install():
-    """What is missing, on a machine that is there for this run alone."""
+    """Installs what is missing, on a machine that is there for this run alone. Tells the probes of what isn't there wholly."""
     missing = [*lacking()]
     if not missing or os.environ.get("CI") != "true" or os.geteuid() or not shutil.which("apt-get"):
-        return
-    how = ["apt-get", "-q", "-y", "-o", "Acquire::Retries=1", "-o", "Acquire::http::Timeout=20", "-o", "DPkg::Lock::Timeout=60"]
-    quiet = {"stdin": subprocess.DEVNULL, "stdout": subprocess.DEVNULL, "stderr": subprocess.DEVNULL,
-             "env": {**os.environ, "DEBIAN_FRONTEND": "noninteractive"}, "check": False}
-    end = time.monotonic() + APT_SECONDS
-
-    def apt_get(*words):
-        return not subprocess.run([*how, *words], timeout=max(end - time.monotonic(), 1), **quiet).returncode
-    try:
-        apt_get("update")  # where this fails, old lists may still do
-        if not apt_get("install", "--no-install-recommends", *missing):
-            for package in missing:  # one that this Debian hasn't holds no other back
-                apt_get("install", "--no-install-recommends", package)
-    except (subprocess.SubprocessError, OSError) as fault:
-        said(f"apt-get: {type(fault).__name__}; what is missing is skipped")
+        return set()
+    end, packages = time.monotonic() + APT_SECONDS, [package for package, _ in missing]
+    apt_get(end, "update")  # where this fails, old lists may still do
+    if not apt_get(end, "install", "--no-install-recommends", *packages):
+        for package in packages:  # one that this Debian hasn't holds no other back
+            if time.monotonic() < end:
+                apt_get(end, "install", "--no-install-recommends", package)
+    absent = {probe for package, probe in missing if not is_installed(package)}
+    said(f"apt-get: {len(packages)} packages were missing; {APT_SECONDS - (end - time.monotonic()):.0f} s"
+         + (f"; still not there: {', '.join(sorted(absent))}" if absent else ""))
+    return absent
 
 
 class Gate:
@@ -98,14 +122,18 @@ class Gate:
     def __init__(self):
         self.passed, self.failed, self.skipped = 0, [], []
         self.folder = pathlib.Path(tempfile.mkdtemp(prefix="puzzles-gate-"))
-        self.built, self.python = self.folder / "library", sys.executable
+        self.built, self.python, self.absent = self.folder / "library", sys.executable, set()
 
     def is_there(self, probe):
+        if probe in self.absent:
+            return False
         if probe == COMMIT:
             words = ["git", "-C", str(TOP), "rev-parse", "--verify", "HEAD"]
             return bool(shutil.which("git")) and not subprocess.run(words, capture_output=True, check=False).returncode
-        return bool(is_program(probe) or (self.built / probe).is_file()
-                    or probe.isidentifier() and has_module(probe, self.python))
+        if probe == MYPY:
+            words = [self.python, "-m", "mypy", "--version"]
+            return subprocess.run(words, capture_output=True, text=True, check=False).stdout.startswith(MYPY)
+        return is_program(probe) or (self.built / probe).is_file()
 
     def missing(self, name, probes):
         """Whether something is missing that a part needs, which is then skipped."""
@@ -121,7 +149,9 @@ class Gate:
             words = [str(word).replace(key, str(value)) for word in words]
         done = subprocess.run([sys.executable, HERE / "part.py", str(seconds), log, *words], cwd=TOP, stdin=subprocess.DEVNULL,
                               stdout=subprocess.PIPE, text=True, check=False,
-                              env={**os.environ, "PYTHONDONTWRITEBYTECODE": "1", **more})
+                              env={**os.environ, "PYTHONDONTWRITEBYTECODE": "1",
+                                   "HYPOTHESIS_STORAGE_DIRECTORY": str(self.folder / "hypothesis"),
+                                   "ABSENT": " ".join(self.absent), **more})
         wrote = log.read_text(errors="replace") if log.exists() else ""
         clock, used, why = [*done.stdout.strip().split(" ", 2), "", "", ""][:3]
         said(f"{name}: {clock} s, {used} of the processor")
@@ -138,7 +168,7 @@ class Gate:
         """A check that is one test."""
         if self.missing(name, probes):
             return
-        status, wrote = self.run(name, SECONDS, [self.python, "python/run", *words])
+        status, wrote = self.run(name, SECONDS, [self.python, *([] if words[0] == "-m" else ["python/run"]), *words])
         if status == 0:
             self.passed += 1
         elif status is not None:
@@ -150,19 +180,19 @@ class Gate:
         parts = [part for part, probes in {"so": ["cc"], "wasm": ["wasm-ld", "wasm-opt"]}.items()
                  if not self.missing(f"library/build.py {part}", ["rt", *probes])]
         if parts:
-            status, wrote = self.run("build", BUILD_SECONDS, [sys.executable, "library/build.py", f"--to={self.built}",
-                                                              f"--jobs={CORES}", *parts])
+            words = [sys.executable, "library/build.py", f"--to={self.built}", f"--jobs={rooms()}", *parts]
+            status, wrote = self.run("build", BUILD_SECONDS, words)
             if status:
                 self.failed.append(f"library/build.py: status {status}")
                 self.show("build", wrote)
 
     def pytest(self):
-        if not has_module("pytest", self.python):
+        if not has_module("pytest", self.python) or "import:pytest" in self.absent:
             self.skipped.append(("tests/", "no pytest (python3-pytest)"))
             return
         words = [self.python, "-m", "pytest", "-q", "-p", "no:cacheprovider", f"--junitxml={self.folder}/pytest.xml",
                  "--program=PROGRAM", "--library=BUILT/libpuzzles.so", "--module=BUILT/puzzles.wasm",
-                 *(["-n", str(min(CORES, 8))] if has_module("xdist", self.python) else [])]
+                 *(["-n", str(min(CORES, 8)), "--dist", "loadgroup"] if has_module("xdist", self.python) else [])]
         status, wrote = self.run("pytest", TESTS_SECONDS, words)
         if status is None:
             return
@@ -245,7 +275,7 @@ def main():
         gate.skipped.append(("all tests around the core", "rt ci failed"))
     else:
         try:
-            install()
+            gate.absent = install()
             gate.all(only)
         except Exception as fault:  # the closing line has to come
             traceback.print_exc()

@@ -3,7 +3,7 @@
 
 usage: library/build.py [--to FOLDER] [--kit KIT] [--jobs N] [so] [wasm]
 
-so      libpuzzles.so and puzzles.h; needs cc
+so      libpuzzles.so.0, the link libpuzzles.so to it, and puzzles.h; needs cc
 wasm    puzzles.wasm and puzzles.js; needs wasm-ld and wasm-opt (Debian's lld and binaryen)
 
 Without a word it makes both. FOLDER is library/out unless it is said, and a file gets its name there once it is whole. KIT is the
@@ -17,6 +17,7 @@ The status is 0 if all is made, 1 if a step fails, and 2 if something is missing
 import argparse
 import os
 import pathlib
+import re
 import shutil
 import sys
 import tempfile
@@ -27,14 +28,22 @@ from module import build_module
 HERE = pathlib.Path(__file__).resolve().parent
 CRATE = HERE.parent / "crates" / "puzzles_c"
 TOOLS = {"so": ["cc"], "wasm": ["wasm-ld", "wasm-opt"]}
-EXPORTS = "{ global: puzzles_*; local: *; };\n"
+EXPORTS = "PUZZLES_{}.{} {{ global: puzzles_*; local: *; }};\n"
+LINK = "libpuzzles.so"
+
+
+def version():
+    """The two parts of the version that the header has."""
+    number = int(re.search(r"(?m)^#define PUZZLES_VERSION (\d+)$", (HERE / "puzzles.h").read_text())[1])
+    return divmod(number, 100)
 
 
 def build_shared(kit, archive, room):
     """The shared library of the proved one and of the kit's calls for memory. Nothing but the calls is exported."""
-    exports, made = room / "exports", room / "libpuzzles.so"
-    exports.write_text(EXPORTS)
-    run(["cc", "-shared", "-o", made, "-Wl,-soname,libpuzzles.so", "-Wl,--whole-archive", archive, "-Wl,--no-whole-archive",
+    first, second = version()
+    exports, made = room / "exports", room / f"{LINK}.{first}"
+    exports.write_text(EXPORTS.format(first, second))
+    run(["cc", "-shared", "-o", made, f"-Wl,-soname,{made.name}", "-Wl,--whole-archive", archive, "-Wl,--no-whole-archive",
          kit.heap, "-Wl,--gc-sections", "-Wl,-z,defs", "-Wl,-z,now", "-Wl,-z,noexecstack", f"-Wl,--version-script={exports}"])
     return [made, HERE / "puzzles.h"]
 
@@ -47,6 +56,14 @@ def hand_over(file, folder):
     print(f"{folder / file.name}: {(folder / file.name).stat().st_size:,} bytes", flush=True)
 
 
+def link_to(file, folder):
+    """The name by which a linker finds the library of a folder."""
+    part = folder / f".{LINK}.part"
+    part.unlink(missing_ok=True)
+    part.symlink_to(file.name)
+    os.replace(part, folder / LINK)
+
+
 def build(asked, room):
     kit = Kit(asked.kit)
     print(f"proves and builds {CRATE.name}; what `rt` says goes to {asked.to}/build.log", file=sys.stderr)
@@ -56,6 +73,8 @@ def build(asked, room):
         made += [build_module(kit, room), HERE / "puzzles.js"]
     for file in made:
         hand_over(file, asked.to)
+    if "so" in asked.parts:
+        link_to(made[0], asked.to)
 
 
 def main():

@@ -2,10 +2,10 @@
 import pathlib
 import re
 
-from kit import run
+from kit import Failed, run
 
 SOURCES = pathlib.Path(__file__).resolve().parent / "module"
-EXPORTS = [*(f"puzzles_{call}" for call in ("solve", "solve_each", "check", "grade", "generate", "clear")), "malloc"]
+EXPORTS = [*(f"puzzles_{call}" for call in ("solve", "solve_each", "check", "grade", "generate", "version", "clear")), "malloc"]
 STACK = 1 << 17  # bytes
 MOST_MEMORY = 1 << 31  # bytes
 
@@ -23,9 +23,14 @@ LOWER = ["--enable-memory64", "--enable-bulk-memory", "--enable-mutable-globals"
 
 def for_wasm(text):
     """The LLVM module in words, for the other target: it differs in its head and in attributes of x86-64."""
-    text = re.sub(r'(?m)^target datalayout = .*', f'target datalayout = "{LAYOUT}"', text)
-    text = re.sub(r'(?m)^target triple = .*', f'target triple = "{TARGET}"', text)
-    return re.sub(r' "(?:probe-stack|stack-probe-size|target-cpu)"="[^"]*"', "", text)
+    for word, value in ("datalayout", LAYOUT), ("triple", TARGET):
+        text, found = re.subn(rf'(?m)^target {word} = .*', f'target {word} = "{value}"', text)
+        if found != 1:
+            raise Failed(f"the module of the library has {found} lines of its target's {word}, and not one")
+    text = re.sub(r' "(?:probe-stack|stack-probe-size|target-cpu)"="[^"]*"', "", text)
+    if left := re.search(r'"(?:target|tune)-[^"]*"="|\bx86|\basm\b', text):
+        raise Failed(f"the module of the library has something of another machine: {text[left.start():][:60]}")
+    return text
 
 
 def build_module(kit, room):

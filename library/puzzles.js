@@ -1,8 +1,10 @@
 // The proved library as a WebAssembly module, in a page, a worker or Node. Each call gives what the program would write, and
-// its status. 5 and 6, with no text, are a full memory. A call whose module stops in it throws, and the next one is well.
+// its status. 5, with no text, is a full memory. A call whose module stops in it throws, and the next one is well.
+const VERSION = 1; // of the module that goes with this file, as puzzles_version tells it
 const GAMES = ["solo", "pattern", "lightup", "tents"], BLACK = { pattern: 50, lightup: 20 };
 const NO_MEMORY = 5, TOO_SMALL = 7, REFUSED = { status: 2, text: "refused: words\n" };
-const FIRST_ROOM = 2 ** 16, KEPT_MEMORY = 2 ** 26;
+const FIRST_ROOM = 80057; // the most bytes of an answer, but for many lines and for a trace
+const KEPT_MEMORY = 2 ** 26;
 const encoder = new TextEncoder(), decoder = new TextDecoder();
 
 class Refused extends Error {}
@@ -15,9 +17,16 @@ function number(value, bits) {
   return bits > 32 ? BigInt(value) : Number(value);
 }
 
+// A text as bytes; bytes may come in its place.
+function text(word) {
+  const bytes = typeof word === "string" ? encoder.encode(word) : word;
+  if (!(bytes instanceof Uint8Array)) throw new Refused();
+  return bytes;
+}
+
 async function bytesOf(source) {
   const given = await source;
-  if (!(given instanceof Response)) return given;
+  if (typeof Response !== "function" || !(given instanceof Response)) return given;
   if (!given.ok) throw new Error(`${given.url} has status ${given.status}`);
   return given.arrayBuffer();
 }
@@ -40,38 +49,39 @@ export class Puzzles {
   constructor(module) {
     this.#module = module;
     this.#begin();
-    if (!this.#exports.puzzles_solve) throw new Error("another module");
+    const version = this.#exports.puzzles_version?.();
+    if (version !== VERSION) throw new Error(`a module of version ${version}, and not ${VERSION}`);
   }
 
   solve(game, id, { budget = 100000 } = {}) {
-    return this.#answer("solve", game, () => [id, number(budget, 64)]);
+    return this.#answer("solve", game, () => [text(id), number(budget, 64)]);
   }
 
   // The answers to the IDs that are lines of a text.
   solveEach(game, lines, { budget = 100000 } = {}) {
-    return this.#answer("solve_each", game, () => [lines, number(budget, 64)]);
+    return this.#answer("solve_each", game, () => [text(lines), number(budget, 64)]);
   }
 
   check(game, id, grid) {
-    return this.#answer("check", game, () => [id, grid]);
+    return this.#answer("check", game, () => [text(id), text(grid)]);
   }
 
   grade(game, id, { budget = 100000, trace = false } = {}) {
-    return this.#answer("grade", game, () => [id, number(budget, 64), Number(trace)]);
+    return this.#answer("grade", game, () => [text(id), number(budget, 64), Number(Boolean(trace))]);
   }
 
   generate(game, size, seed, { budget = 100000, tries = 1000, black } = {}) {
     if (black !== undefined && !(game in BLACK)) return REFUSED;
     const share = black ?? BLACK[game] ?? 0;
     return this.#answer("generate", game,
-      () => [size, number(seed, 64), number(budget, 64), number(tries, 32), number(share, 8)]);
+      () => [text(size), number(seed, 64), number(budget, 64), number(tries, 32), number(share, 8)]);
   }
 
   #begin() {
     this.#exports = new WebAssembly.Instance(this.#module).exports;
   }
 
-  // What a call answers to a game and further words, which are texts or numbers.
+  // What a call answers to a game and further words, which are bytes or numbers.
   #answer(call, game, words) {
     try {
       return this.#whole(call, [number(GAMES.indexOf(game), 8), ...words()]);
@@ -87,13 +97,16 @@ export class Puzzles {
   #whole(call, words) {
     let status = TOO_SMALL, text = "";
     while (status === TOO_SMALL) [status, text] = this.#once(call, words);
-    if (this.#exports.memory.buffer.byteLength > KEPT_MEMORY) this.#begin();
+    if (this.#exports.memory.buffer.byteLength > KEPT_MEMORY) {
+      this.#begin();
+      this.#room = FIRST_ROOM; // else the next call would take as much again
+    }
     return { status, text };
   }
 
   #once(call, words) {
     this.#exports.puzzles_clear();
-    const passed = words.flatMap((word) => (["number", "bigint"].includes(typeof word) ? [word] : this.#put(word)));
+    const passed = words.flatMap((word) => (word instanceof Uint8Array ? this.#put(word) : [word]));
     const written = this.#place(8), output = this.#place(this.#room), { memory } = this.#exports;
     // a status is a byte, and nothing is said of the bits above it
     const status = this.#exports[`puzzles_${call}`](...passed, output, BigInt(this.#room), written) & 255;
@@ -102,10 +115,8 @@ export class Puzzles {
     return [status, status < NO_MEMORY ? decoder.decode(new Uint8Array(memory.buffer, Number(output), length)) : ""];
   }
 
-  // The address and the length of a text, or of bytes, in the module's memory.
-  #put(text) {
-    const bytes = typeof text === "string" ? encoder.encode(text) : text;
-    if (!(bytes instanceof Uint8Array)) throw new Refused();
+  // The address and the length of bytes in the module's memory.
+  #put(bytes) {
     const address = this.#place(bytes.length);
     new Uint8Array(this.#exports.memory.buffer).set(bytes, Number(address));
     return [address, BigInt(bytes.length)];

@@ -82,8 +82,8 @@ Classifier: Programming Language :: Python :: 3
 Classifier: Typing :: Typed
 Description-Content-Type: text/plain
 
-The program `puzzles`, its tools for books, collections and the page, and the package `puzzles`, which asks it with types. Games are Solo
-(sudoku), Pattern (nonograms), Light Up (Akari) and Tents, given by their game IDs. Each answer is proved.
+The program `puzzles`, its tools for books, collections and the page, and the package `puzzles`, which asks it with types.
+Games are Solo (sudoku), Pattern (nonograms), Light Up (Akari) and Tents, given by their game IDs. Each answer is proved.
 `help(puzzles)` tells the rest.
 """
 WHEEL = """\

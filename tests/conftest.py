@@ -4,6 +4,7 @@ import os
 import pathlib
 import shutil
 import signal
+import subprocess
 
 import pytest
 
@@ -25,9 +26,14 @@ def pytest_configure():
 
 
 def is_there(tool):
-    """Whether there is a program, or else a module of Python, of this name."""
-    paths = os.environ.get("PATH", "") + ":/usr/sbin:/sbin"
-    return shutil.which(tool, path=paths) or tool.isidentifier() and importlib.util.find_spec(tool)
+    """Whether there is a program of this name, or a module as import:NAME, or a commit that git can read."""
+    if tool in os.environ.get("ABSENT", "").split():  # the gate couldn't install it wholly
+        return False
+    if tool == "a commit":
+        words = ["git", "-C", TOP, "rev-parse", "-q", "--verify", "HEAD"]
+        return not subprocess.run(words, capture_output=True, check=False).returncode
+    kind, _, name = tool.rpartition(":")
+    return importlib.util.find_spec(name) if kind else shutil.which(name, path=os.environ.get("PATH", "") + ":/usr/sbin:/sbin")
 
 
 def pytest_collection_modifyitems(config, items):
@@ -38,7 +44,7 @@ def pytest_collection_modifyitems(config, items):
         for mark in item.iter_markers("needs"):
             for tool in mark.args:
                 if not is_there(tool):
-                    item.add_marker(pytest.mark.skip(reason=f"no {tool}"))
+                    item.add_marker(pytest.mark.skip(reason=f"no {tool.rpartition(':')[2]}"))
 
 
 def built(request, name):

@@ -5,10 +5,9 @@
 // Prints what the program prints for each ID. The status is the greatest of them.
 #include <puzzles.h>
 #include <stdio.h>
-#include <stdlib.h>
 #include <string.h>
 
-enum { FIRST_ROOM = 256, BUDGET = 100000 };
+enum { BUDGET = 100000 };
 static const char *const GAMES[] = {"solo", "pattern", "lightup", "tents"};
 
 // The number of a game, or one that the library refuses.
@@ -18,25 +17,22 @@ static uint8_t game_named(const char *name) {
     return game;
 }
 
-// Prints the answer to an ID. If it doesn't fit, the library says how long it is, and is asked again.
+// Prints the answer to an ID. There is room for the longest.
 static uint8_t solve(uint8_t game, const char *id) {
-    size_t room = FIRST_ROOM, written = 0;
-    uint8_t status, *output = malloc(room);
-    while (output) {
-        status = puzzles_solve(game, (const uint8_t *)id, strlen(id), BUDGET, output, room, &written);
-        if (status != PUZZLES_TOO_SMALL) break;
-        free(output);
-        output = malloc(room = written);
-    }
-    if (!output) status = PUZZLES_NO_MEMORY;
+    static uint8_t output[PUZZLES_ROOM_SOLVE];
+    size_t written;
+    uint8_t status = puzzles_solve(game, (const uint8_t *)id, strlen(id), BUDGET, output, sizeof output, &written);
     if (status < PUZZLES_NO_MEMORY) fwrite(output, 1, written, stdout);
-    free(output);
     return status;
 }
 
 int main(int count, char **words) {
     if (count < 3) {
         fputs("usage: solve GAME ID..\n", stderr);
+        return PUZZLES_REFUSED;
+    }
+    if (puzzles_version() != PUZZLES_VERSION) {
+        fputs("solve: a library of another version\n", stderr);
         return PUZZLES_REFUSED;
     }
     uint8_t greatest = PUZZLES_FINE;

@@ -133,4 +133,4 @@ def test_photos(bench):
 
 
 
-pytestmark = pytest.mark.needs("PIL")
+pytestmark = pytest.mark.needs("import:PIL")

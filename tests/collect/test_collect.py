@@ -1,4 +1,5 @@
 """The table of a collection."""
+import contextlib
 import csv
 import io
 import os
@@ -100,6 +101,16 @@ def test_again(bench):
     assert len(rows(table)) == 60, "a refused file changed the table"
 
 
+def done_so_far(table):
+    """How many lines were taken, and puzzles graded."""
+    try:
+        with contextlib.closing(sqlite3.connect(table, timeout=0)) as base:
+            lines, = base.execute("SELECT coalesce(sum(lines), 0) FROM source").fetchone()
+            return lines + base.execute("SELECT count(verdict) FROM puzzle").fetchone()[0]
+    except sqlite3.Error:  # it isn't made yet, or is being changed
+        return 0
+
+
 def test_killed(bench):
     """killed by -9 at random points and begun anew, it comes to the table of a run that nobody stopped"""
     path, whole, table = bench.folder / "ids.txt", bench.folder / "whole.db", bench.folder / "killed.db"
@@ -108,12 +119,12 @@ def test_killed(bench):
     random.Random(7).shuffle(lines)
     path.write_text("".join(f"{line}\n" for line in lines))
     words = [COLLECT, "add", "--source", "ids", table, "solo", path]
-    start = time.monotonic()
     bench.run([COLLECT, "add", "--source", "ids", whole, "solo", path])
-    taken, draws, kills = time.monotonic() - start, random.Random(9), 0
-    for _ in range(KILLS):
-        run = bench.start(words)
-        time.sleep(draws.uniform(.05, taken * .6))
+    draws, kills = random.Random(9), 0
+    for number in range(KILLS):
+        run, mark = bench.start(words), (len(lines) + 3000) * (number + draws.random()) / KILLS
+        wait_until(lambda: run.poll() is not None or done_so_far(table) >= mark, SECONDS, f"{mark:.0f} lines are taken or graded")
+        time.sleep(draws.uniform(0, .05))
         kills += run.poll() is None
         end(run)
         run.communicate()
@@ -128,13 +139,16 @@ def test_killed(bench):
 
 def test_stopped(bench):
     """Ctrl-C ends it with one sentence, nothing runs on, and the same words go on"""
-    path, table = bench.folder / "ids.txt", bench.folder / "stopped.db"
+    path, table, slow = bench.folder / "ids.txt", bench.folder / "stopped.db", bench.folder / "slow"
     path.write_text("".join(f"{text}\n" for text in solos(bench, 3000)))
-    run = bench.start([COLLECT, "add", table, "solo", path])
+    slow.write_text("#!/bin/sh\nsleep .02\nexec puzzles \"$@\"\n")  # so that it isn't at its end before it is stopped
+    slow.chmod(0o755)
+    run = bench.start([COLLECT, "add", "--program", slow, table, "solo", path])
     wait_until(lambda: table.exists() and any(row[3] for row in rows_or_none(table)), SECONDS, "no puzzle was graded")
     run.send_signal(2)
     _, errors = run.communicate(timeout=SECONDS)
-    assert run.returncode == 130 and without_progress(errors) == "puzzles-collect: stopped\n", f"status {run.returncode}: {errors}"
+    told = without_progress(errors)
+    assert run.returncode == 130 and told == "puzzles-collect: stopped\n", f"status {run.returncode}: {errors}"
     graded = sum(bool(row[3]) for row in rows(table))
     assert 0 < graded < 3000, f"{graded} graded at its end"
     add(bench, table, "solo", path)
@@ -220,7 +234,6 @@ def test_fast(bench):
     assert taking[1] + grading[1] / CORES < FAST_SECONDS, f"{told}: too much for {CORES} cores"
     is_idle = taking[2] and grading[2]
     assert taking[0] + grading[0] < FAST_SECONDS or not is_idle, told
-    return told if is_idle else f"{told}, beside other work, so by the processor's alone"
 
 
 @pytest.mark.slow
@@ -285,7 +298,7 @@ def graded_by(bench, words, grades, count):
 
 
 @pytest.mark.slow
-@pytest.mark.needs("distributed")
+@pytest.mark.needs("import:distributed")
 def test_on_many_machines(bench, count=2000):
     """the Dask job grades what is open, and its answers are taken in: the table is that of a run on one machine"""
     if not dask.has_dask(DEBIAN):

@@ -1,4 +1,5 @@
 """Doubles by symmetry, lists, and what a collection forgets, measures and notices."""
+import contextlib
 import csv
 import io
 import itertools
@@ -6,7 +7,6 @@ import json
 import random
 import sqlite3
 import time
-
 
 from support.bench import SECONDS, without_progress
 from collect.test_collect import COLLECT, add, rows, solos
@@ -195,6 +195,43 @@ def test_forgotten(bench):
     bench.told([COLLECT, "forget", table, "solo", other], 2, "no file was taken by the name")
     done = bench.run([COLLECT, "add", "--source", "again", table, "solo", path])
     assert done.returncode == 0 and f"again has the lines of {path}" in done.stderr, done.stderr
+
+
+def listed(bench, table):
+    """Of each ID how often it was met, and where first."""
+    told = bench.good([COLLECT, "list", "--csv", table, "solo"])
+    return {row["id"]: (int(row["times"]), row["source"].rpartition("/")[2]) for row in csv.DictReader(io.StringIO(told))}
+
+
+def test_forgotten_as_if_never_taken(bench):
+    """after `forget` the table is as if the file had never been taken: a puzzle that stands twice in it, how often others were
+    met, and where"""
+    one, two, three = texts = solos(bench, 3)
+    path, other = bench.folder / "a.txt", bench.folder / "b.txt"
+    path.write_text(f"{one}\n{two}\n{one}\nnonsense\n{two}\n")
+    other.write_text(f"{two}\n{three}\n")
+    for order, first in (((path, other), "a.txt:2"), ((other, path), "b.txt:1")):
+        table = bench.folder / f"{order[0].name}.db"
+        for file in order:
+            bench.run([COLLECT, "add", table, "solo", file])  # a line of it is refused
+        assert listed(bench, table) == {one: (2, "a.txt:1"), two: (3, first), three: (1, "b.txt:2")}
+        said = bench.good([COLLECT, "forget", table, "solo", path])
+        assert said.startswith("1 puzzles and 1 refusals are gone"), said
+        assert listed(bench, table) == {two: (1, "b.txt:1"), three: (1, "b.txt:2")}
+        bench.run([COLLECT, "add", table, "solo", path])
+        assert {text: times for text, (times, _) in listed(bench, table).items()} == dict(zip(texts, (2, 3, 1)))
+
+
+def test_forgotten_of_an_older_table(bench):
+    """a table from before has no list of what stood in its files: that is told, and nothing goes"""
+    path, table = bench.folder / "ids.txt", bench.folder / "older.db"
+    path.write_text("".join(f"{text}\n" for text in solos(bench, 5)))
+    add(bench, table, "solo", path)
+    with contextlib.closing(sqlite3.connect(table)) as base:
+        base.execute("DROP TABLE met")
+    before = rows(table)
+    bench.told([COLLECT, "forget", table, "solo", path], 2, "taken by an older version")
+    assert rows(table) == before
 
 
 def test_together(bench):

@@ -1,7 +1,7 @@
 #!/usr/bin/env python3
 """Tells of each wrong body which test finds it, or that a contract alone does; and has the prover take ten right ones.
 
-A wrong body is an edit of crates/*/must-fail. The tests of core_tests and of the program run without any proof. So a failure
+A wrong body is an edit of crates/*/must-fail. The tests of core_tests, the program and the library for C run unproved. So a failure
 shows what the edit does, and not what a proof stands on. An edit is told by the first test that passes without it and fails
 with it. One that no test tells is left to its contract: the gate tries it there.
 
@@ -34,9 +34,9 @@ from kit import Failed, Kit
 from puzzles._work import end
 
 RIGHT = TOP / "tests/edits/right_bodies"
-# The crates whose tests run, for an edit of the program's own two crates and for one of another.
-PROGRAM = ("commands", "puzzles")
-TESTS = {True: ("puzzles", "core_tests"), False: ("core_tests", "puzzles")}
+# The crates whose tests run, for an edit of the program's own three crates and for one of another. The library for C is last.
+PROGRAM = ("commands", "ends", "puzzles")
+TESTS = {True: ("puzzles", "core_tests", "puzzles_c"), False: ("core_tests", "puzzles", "puzzles_c")}
 
 
 def say(words):

@@ -6,14 +6,16 @@ usage: tests/library/library.py [--puzzles N] [--calls N] [--built FOLDER] PROGR
 PROGRAM is as `rt run` leaves it: crates/puzzles/out/puzzles. The library is that of FOLDER; else `library/build.py so` proves and
 builds it, into library/out. N puzzles, 1,000 unless it is said, of all games and sizes are solved, checked with a right and with
 a mixed grid, and graded with the trace and without. Beside them stand making, refused and hostile texts, answers that don't fit
-at first, four threads at once, want of memory, and the examples in C and Python. The memory is looked at over 100,000 calls.
-It needs cc and nm. The status is 1 if anything differs.
+at first, four threads at once, want of memory, and the examples in C and Python. Library and program run with twice the stack
+that docs/PROOF.md says they need. The memory is looked at over 100,000 calls.
+It needs cc, nm and readelf. The status is 1 if anything differs.
 """
 import argparse
 import ctypes
 import os
 import pathlib
 import random
+import re
 import resource
 import subprocess
 import sys
@@ -30,7 +32,9 @@ STEP_SECONDS = 600
 BUILD_SECONDS = 4 * 3600
 THREADS = 4
 FLAT = 256 * 1024  # bytes that the memory may differ by between a fifth of the calls and all
-EXPORTS = {f"puzzles_{name}" for name in example.CALLS}
+EXPORTS = {f"puzzles_{name}" for name in [*example.CALLS, "version"]}
+PROGRAM_STACK, LIBRARY_STACK = 80 << 10, 32 << 10  # bytes that they need at most, as docs/PROOF.md says; words come besides
+HEADER = (TOP / "library" / "puzzles.h").read_text()
 # What the library takes from the C library and the loader: memory, and no input, output, clock or network.
 NEEDED = {"malloc", "realloc", "free", "memcpy", "memmove", "memset", "memcmp",
           "__cxa_finalize", "__gmon_start__", "_ITM_deregisterTMCloneTable", "_ITM_registerTMCloneTable"}
@@ -65,14 +69,14 @@ def answer(puzzles, case):
     return status, text.decode("latin-1")
 
 
-def told(case):
+def told_of(case):
     return f"{case.call} {case.game} {case.text[:60]!r} {case.options}"
 
 
 def compare(tally, file, all_cases):
     puzzles = example.Puzzles(file)
     for case in all_cases:
-        tally.same(told(case), answer(puzzles, case), (case.status, case.answer))
+        tally.same(told_of(case), answer(puzzles, case), (case.status, case.answer))
 
 
 def compare_in_threads(tally, file, all_cases):
@@ -81,7 +85,7 @@ def compare_in_threads(tally, file, all_cases):
 
     def work(number):
         puzzles, mixed = example.Puzzles(file), random.Random(number).sample(all_cases, len(all_cases))
-        wrong[number] += [told(case) for case in mixed if answer(puzzles, case) != (case.status, case.answer)]
+        wrong[number] += [told_of(case) for case in mixed if answer(puzzles, case) != (case.status, case.answer)]
 
     threading.stack_size(1 << 17)
     threads = [threading.Thread(target=work, args=(number,), daemon=True) for number in range(THREADS)]
@@ -103,7 +107,7 @@ def fit(tally, file, all_cases):
             status = solve(game, text, len(text), case.options["budget"], output, room, written)
             put = case.answer.encode() if room == length else b""
             wanted = (case.status if put else example.TOO_SMALL, length, put + b"-" * (length + 16 - len(put)))
-            tally.same(f"{told(case)} with a room of {room}", (status, written.value, output.raw), wanted)
+            tally.same(f"{told_of(case)} with a room of {room}", (status, written.value, output.raw), wanted)
 
 
 def refuse(tally, file):
@@ -123,6 +127,43 @@ def refuse(tally, file):
     tally.same("a grid of 100 MB", puzzles.check("pattern", b"1x1:/", long), (2, b"refused: grid\n"))
 
 
+def said_by_header(tally, file, all_cases):
+    """What puzzles.h says of the version, of null, of the number for a trace, and of the most bytes of an answer."""
+    calls, written, room = example.Puzzles(file).calls, ctypes.c_size_t(), ctypes.create_string_buffer(64)
+    version = int(re.search(r"#define PUZZLES_VERSION (\d+)", HEADER)[1])
+    tally.same("the version", ctypes.CDLL(str(file)).puzzles_version(), version)
+    output, nothing, one = (room, 64, written), (None, 0), (b"1x1:/", 5)
+    for name, words, wanted in [("solve", (1, *nothing, 0, *output), (2, b"refused: no colon\n")),
+                                ("solve_each", (1, *nothing, 0, *output), (0, b"")),
+                                ("check", (1, *one, *nothing, *output), (2, b"refused: grid\n")),
+                                ("grade", (1, *nothing, 0, 0, *output), (2, b"refused: no colon\n")),
+                                ("generate", (1, *nothing, 0, 0, 1, 0, *output), (2, b"refused: bad size\n"))]:
+        tally.same(f"{name} of null", (calls[name](*words), room.raw[:written.value]), wanted)
+    tally.same("an output at null", (calls["solve"](1, *one, 0, None, 0, written), written.value), (example.TOO_SMALL, 6))
+    for traced in (0, 1, 2, 128, 254, 255):
+        told = calls["grade"](1, b"5x1:1/1//1/1/2.2", 16, 0, traced, *output), written.value > len("lines\n")
+        tally.same(f"the number {traced} for a trace", told, (0, traced > 0))
+    most = {name.lower(): int(number) for name, number in re.findall(r"PUZZLES_ROOM_(\w+) = (\d+)", HEADER)}
+    for case in all_cases:
+        if case.call in most and not case.options.get("trace"):
+            tally.same(f"room for {told_of(case)}", len(case.answer) <= most[case.call], True)
+    longest = max(len(case.answer) for case in all_cases if case.call == "solve")
+    tally.same("the longest answer of solve", longest, most["solve"])
+
+
+def small_stacks(tally, program, lines, made, some):
+    """Each call of the lines on a thread with twice the stack of the library, and some runs with twice that of the program."""
+    done = subprocess.run([made, "within", str(2 * LIBRARY_STACK)], input="".join(lines), capture_output=True, text=True,
+                          check=False, timeout=STEP_SECONDS)
+    tally.same("calls that are answered on a small stack", done.stdout.strip(), str(len(lines)))
+    for case in some:
+        words, given = case.words()
+        done = subprocess.run([program, *words], input=given, capture_output=True, check=False, timeout=STEP_SECONDS, env={},
+                              preexec_fn=lambda: resource.setrlimit(resource.RLIMIT_STACK, (2 * PROGRAM_STACK,) * 2))
+        told = done.returncode, done.stdout.decode("latin-1")
+        tally.same(f"a small stack: {told_of(case)}", told, (case.status, case.answer))
+
+
 def memory(tally, file, all_cases, calls):
     """The resident memory after each fifth of so many calls."""
     puzzles, some, sizes = example.Puzzles(file), [case for case in all_cases if len(case.text) < 60], []
@@ -137,8 +178,8 @@ def memory(tally, file, all_cases, calls):
     print(f"memory: {resident} KB resident after fifths of {calls:,} calls, in {time.monotonic() - begun:.0f} seconds")
 
 
-def harness(tally, file, all_cases, folder):
-    """The stack that a call uses, and calls with no memory to be had."""
+def harness(tally, program, file, all_cases, folder):
+    """The stack that a call uses, calls and runs with twice that, and calls with no memory to be had."""
     made, lines = folder / "harness", [
         f"{case.call} {cases.GAMES.index(case.game)} {case.options.get('budget', 0)} {case.text}\n" for case in all_cases
         if case.call in ("solve", "grade", "check", "generate") and case.game in cases.GAMES and case.text.isprintable()
@@ -149,6 +190,9 @@ def harness(tally, file, all_cases, folder):
         done = subprocess.run([made, part], input="".join(some), capture_output=True, text=True, check=True, timeout=STEP_SECONDS)
         if part == "stack":
             print(f"stack: at most {int(done.stdout):,} bytes in any of {len(some):,} calls")
+            tally.same("a stack within what the documents say", int(done.stdout) <= LIBRARY_STACK, True)
+            few = [case for case in all_cases if len(case.text) < 20_000]
+            small_stacks(tally, program, some, made, few[::20] + [case for case in few if len(case.text) > 1_000])
         else:
             tally.same("calls without memory that were refused, and calls after them", done.stdout.split(), [str(len(some))] * 2)
 
@@ -175,6 +219,10 @@ def symbols(tally, file):
         lines = subprocess.run(["nm", "-D", flag, file], capture_output=True, text=True, check=True, timeout=STEP_SECONDS).stdout
         names = {line.split()[-1].partition("@")[0] for line in lines.splitlines()}
         tally.same(f"nm {flag}", names if wanted else names - NEEDED, wanted or set())
+        versions = {line.partition("@@")[2] for line in lines.splitlines() if " T " in line}
+        tally.same(f"versions of nm {flag}", versions, {"PUZZLES_0.1"} if wanted else set())
+    told = subprocess.run(["readelf", "-d", file], capture_output=True, text=True, check=True, timeout=STEP_SECONDS).stdout
+    tally.same("the name of the library", re.findall(r"soname: \[(.*)\]", told), ["libpuzzles.so.0"])
 
 
 def times(file, program, all_cases):
@@ -213,7 +261,8 @@ def main():
             parts = {"symbols": lambda: symbols(tally, file), "calls": lambda: compare(tally, file, all_cases),
                      "outputs": lambda: fit(tally, file, all_cases), "refusals": lambda: refuse(tally, file),
                      "threads": lambda: compare_in_threads(tally, file, all_cases),
-                     "stack and memory": lambda: harness(tally, file, all_cases, pathlib.Path(room)),
+                     "the header": lambda: said_by_header(tally, file, all_cases),
+                     "stack and memory": lambda: harness(tally, program, file, all_cases, pathlib.Path(room)),
                      "examples": lambda: run_examples(tally, program, file, pathlib.Path(room))}
             for name, part in parts.items():
                 begun = tally.count

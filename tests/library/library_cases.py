@@ -24,8 +24,8 @@ KINDS = {  # of each game the sizes, those that are slow to make last
     "tents": ["4x4", "8x8", "10x10", "14x10", "20x20"],
 }
 LARGEST = [("solo", "31x1x:"), ("solo", "5x6:" + 34 * "z" + "p"), ("pattern", "120x120:" + "/".join(["1.1.1"] * 240)),
-           ("pattern", "120x120:" + 239 * "/"), ("lightup", "120x120:" + 14_400 * "B"),
-           ("tents", "120x120:" + 576 * "z" + 240 * ",0")]
+           ("pattern", "120x120:" + 239 * "/"), ("pattern", "120x120:1/1" + 118 * "/" + "/1/1" + 118 * "/"),
+           ("lightup", "120x120:" + 14_400 * "B"), ("tents", "120x120:" + 576 * "z" + 240 * ",0")]
 REFUSED = [("solo", ""), ("solo", "3x3:"), ("pattern", "3x1:1/1/1/2.1"), ("lightup", "2x2:x"), ("tents", "3x3"),
            ("chess", "2x2:p"), ("solo", "2x2:1\u00c3\u00a9"), ("solo", 65_537 * "1"), ("pattern", "--budget=5")]
 
@@ -103,6 +103,7 @@ def of_makings(program, seeds):
     wanted = [*sizes, ("solo", "2x3x:"), ("pattern", "5x"), ("tents", "3x3"), ("lightup", "121x2"), ("solo", "")]
     options = [{"seed": seed, "budget": MAKING_BUDGET, "tries": tries} for seed in seeds for tries in (1, 1_000)]
     cases = [Case("generate", game, size, options=more) for (game, size), more in itertools.product(wanted, options)]
+    cases.append(Case("generate", "pattern", "120x120", options={"seed": 1, "black": 100}))
     cases += [Case("generate", game, "6x6", options={"seed": 5, "black": black}) for game in GAMES for black in (0, 30, 100, 101)]
     return answered(program, cases)
 

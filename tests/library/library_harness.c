@@ -1,7 +1,8 @@
-// What `library.py` can't see from Python: harness stack | harness memory, with a call on each line of the input:
-// its name, the game's number, the budget and the ID.
+// What `library.py` can't see from Python: harness stack | harness within BYTES | harness memory, with a call on each line of
+// the input: its name, the game's number, the budget and the ID.
 //
 // stack: makes each call on a painted stack, and prints the most bytes that one of them used.
+// within: makes each call on a stack of so many bytes, and prints how many were answered.
 // memory: makes each call with no memory to be had, and once more with memory, and prints how many there were of each.
 #include <puzzles.h>
 #include <pthread.h>
@@ -50,7 +51,7 @@ static void *make(void *given) {
     if (!strcmp(call->name, "solve"))
         call->status = puzzles_solve(call->game, id, length, call->budget, output, ROOM, written);
     else if (!strcmp(call->name, "grade"))
-        call->status = puzzles_grade(call->game, id, length, call->budget, true, output, ROOM, written);
+        call->status = puzzles_grade(call->game, id, length, call->budget, 1, output, ROOM, written);
     else if (!strcmp(call->name, "check"))
         call->status = puzzles_check(call->game, id, length, id, length, output, ROOM, written);
     else
@@ -87,6 +88,21 @@ static void measure_stack(void) {
     printf("%zu\n", most);
 }
 
+static void keep_within(size_t stack) {
+    Call call;
+    unsigned long answered = 0;
+    while (is_read(&call)) {
+        pthread_t thread;
+        pthread_attr_t how;
+        if (pthread_attr_init(&how) || pthread_attr_setstacksize(&how, stack) || pthread_create(&thread, &how, make, &call))
+            stop("no thread");
+        pthread_join(thread, NULL);
+        pthread_attr_destroy(&how);
+        answered += call.status < PUZZLES_NO_MEMORY;
+    }
+    printf("%lu\n", answered);
+}
+
 static void limit_memory(rlim_t most) {
     struct rlimit limit = {most, RLIM_INFINITY};
     if (setrlimit(RLIMIT_AS, &limit)) stop("no limit can be set");
@@ -115,7 +131,7 @@ static void refuse_memory(void) {
         limit_memory(1 << 20); // less than there is: no more comes
         Block *all = take_all();
         make(&call);
-        refused += (call.status == PUZZLES_NO_MEMORY || call.status == PUZZLES_BROKEN) && call.written == 0;
+        refused += call.status == PUZZLES_NO_MEMORY && call.written == 0;
         limit_memory(RLIM_INFINITY);
         give_back(all);
         make(&call);
@@ -127,6 +143,7 @@ static void refuse_memory(void) {
 int main(int count, char **words) {
     if (count == 2 && !strcmp(words[1], "stack")) measure_stack();
     else if (count == 2 && !strcmp(words[1], "memory")) refuse_memory();
-    else stop("stack or memory");
+    else if (count == 3 && !strcmp(words[1], "within")) keep_within(strtoul(words[2], NULL, 10));
+    else stop("stack, within or memory");
     return 0;
 }

@@ -50,7 +50,7 @@ BROWSERS = {
 TOOLS = {"node": "node", "chromium": "chromium", "firefox": "firefox-esr"}
 # What each engine has to find, beside answers that don't differ.
 WANTED = {"full": [5, True], "broken": [True, True, 5, True],
-          "refused": [True, "refused: too long\n", "refused: no colon\n", True, True]}
+          "refused": [True, "refused: too long\n", "refused: no colon\n", True, True, True]}
 
 
 class Handler(http.server.SimpleHTTPRequestHandler):

@@ -80,18 +80,23 @@ async function broken(load) {
   return [stopped.startsWith("the module stopped in solve: "), isWellThen, full.solve(...TRIED).status, isWell(full)];
 }
 
-// Arguments that the program has no words for are refused, and so is what is no module.
-async function refused(puzzles) {
+// Arguments that the program has no words for are refused, and so are what is no module and one of another version.
+async function refused(puzzles, load) {
   const faults = [puzzles.solve("chess", "2x2:p"), puzzles.solve("solo"), puzzles.solve(undefined, "2x2:p"),
+    puzzles.solve("solo", 5), puzzles.check("solo", "2x2:p", 5n),
     puzzles.solve("solo", "2x2:p", { budget: -1 }), puzzles.solve("solo", "2x2:p", { budget: 2n ** 64n }),
     puzzles.solve("solo", "2x2:p", { budget: 0.5 }), puzzles.generate("tents", "5x5", 1, { black: 5 }),
     puzzles.generate("pattern", "5x5", 1, { black: 256 }), puzzles.generate("pattern", "5x5", "x"),
     puzzles.generate("pattern", "5x5", 1, { tries: 2 ** 32 })];
+  changed = { puzzles_version: () => 2 };
+  const other = await sentence(load);
+  changed = {};
   const long = puzzles.solve("solo", new Uint8Array(1e8)), empty = Uint8Array.of(0, 97, 115, 109, 1, 0, 0, 0);
   const modules = [new Uint8Array(9), empty, "text", undefined];
   const said = await Promise.all(modules.map((module) => sentence(() => Puzzles.load(module))));
   return [faults.every(({ text }) => text === "refused: words\n"), long.text, puzzles.solve("solo", "").text, isWell(puzzles),
-    said.every((text) => text.startsWith("puzzles.wasm can't be loaded: "))];
+    said.every((text) => text.startsWith("puzzles.wasm can't be loaded: ")),
+    other === "puzzles.wasm can't be loaded: a module of version 2, and not 1"];
 }
 
 // What `wasm.py` wants to know. `source` gives the module, as `Puzzles.load` takes it, and `spent` the milliseconds of the
@@ -102,7 +107,7 @@ export async function tried(source, spent, { cases, stack }) {
   return {
     count: cases.length, differing: differing(puzzles, cases),
     stack: stackUsed(puzzles, some, stack), memory: last.memory.buffer.byteLength,
-    full: [fullStatus(puzzles), isWell(puzzles)], broken: await broken(load), refused: await refused(await load()),
+    full: [fullStatus(puzzles), isWell(puzzles)], broken: await broken(load), refused: await refused(await load(), load),
     start: await cost(spent, load), solve: await solveCost(spent, await load(), cases),
   };
 }

@@ -15,12 +15,10 @@ import urllib.request
 
 import pytest
 
-from support.bench import DEBIAN, TOP, Bench
-from support.trial import wait_until
+from support.bench import DEBIAN, SECONDS, TOP, Bench
 from puzzles._work import end
 
-pytestmark = [pytest.mark.needs("git", "dpkg", "dpkg-deb"), pytest.mark.xdist_group("packages")]
-PORT = 8031
+pytestmark = [pytest.mark.needs("git", "a commit", "dpkg", "dpkg-deb"), pytest.mark.xdist_group("packages")]
 ANSWERS = """\
 import puzzles, puzzles.ids
 assert puzzles.solve("pattern", "5x1:1/1//1/1/2.2").grid == ("##.##",)
@@ -125,20 +123,20 @@ def tried(packages, folder):
 
 def serves(packages, folder, path):
     """The page of a folder answers, each file that it names too, and asks the program of the folder."""
-    run = packages.bench.start([folder / "bin/puzzles-page", "--port", str(PORT)])
+    run = packages.bench.start([folder / "bin/puzzles-page", "--port", "0"])
     try:
-        wait_until(lambda: got("/") is not None or run.poll() is not None, 60, "the page answers")
-        assert run.poll() is None, "the page ended"
-        for name in re.findall(r'(?:src|href)="([^":#]+)"', got("/")):
-            assert got(f"/{name.removeprefix('/')}") is not None, f"the page has no {name}"
+        address = run.stdout.readline().strip()
+        assert address, f"the page ended: {run.communicate()[1]}"
+        for name in re.findall(r'(?:src|href)="([^":#]+)"', got(address)):
+            assert got(address + name.removeprefix("/")) is not None, f"the page has no {name}"
     finally:
         end(run)
         run.communicate()
 
 
-def got(name):
+def got(address):
     try:
-        with urllib.request.urlopen(f"http://127.0.0.1:{PORT}{name}", timeout=10) as answer:
+        with urllib.request.urlopen(address, timeout=SECONDS) as answer:
             return answer.read().decode("utf-8", "replace")
     except (urllib.error.URLError, ConnectionError):
         return None
@@ -182,6 +180,7 @@ def test_tarball(packages):
     assert not [name for name in names if "__pycache__" in name], "what Python left behind is packed"
 
 
+@pytest.mark.needs("import:ensurepip")
 def test_wheel(packages):
     """pip installs the wheel: the program is on the path of its environment, and `import puzzles` finds it there"""
     folder = packages.folder / "environment"

@@ -5,11 +5,10 @@ import shutil
 import socket
 import subprocess
 import sys
-import tempfile
 import time
 from pathlib import Path
 
-from page.server import RUN, WAIT, Server
+from page.server import PATIENT, RUN, WAIT, Server
 
 EXAMPLE = "case \"$*\" in *5x1:1/1//1/1/2.2) printf 'one\\n##.##\\n'; exit 0 ;; esac\n"  # what is asked at the start
 GOOD = {"game": "pattern", "id": "1x1:/"}
@@ -27,8 +26,8 @@ BROKEN = [  # a shell script, and what comes of each call
 CALLS = [("solve", GOOD), ("grade", GOOD), ("check", {**GOOD, "grid": "."}),
          ("generate", {"game": "pattern", "size": "1x1", "seed": "1"})]
 FIFTH = {"game": "solo", "size": "5x5", "seed": "987654321"}  # by a search it takes longer than the clock
-ENDED = 2.0  # seconds from SIGTERM to the end
 SLOTS, SHARE, CLIENTS, POSTS = 8, 3, 40, 600
+SLOW = 20  # seconds for an answer: calls that take their whole time are beside one another, on a busy machine too
 FILES, SILENT, SECONDS = 128, 180, 3
 MEMORY = 200 << 10  # KiB of the server at its most
 
@@ -52,10 +51,21 @@ def running(word):
 
 def left(word):
     """The processes that still have a word in their command line after a while: a busy machine ends them late."""
+    until(lambda: not running(word))
+    return running(word)
+
+
+def gone(children):
+    """Whether processes are gone after a while."""
+    return until(lambda: not any(Path(f"/proc/{child}").exists() for child in children))
+
+
+def until(is_so):
+    """Whether something is so after a while."""
     end = time.monotonic() + WAIT
-    while (found := running(word)) and time.monotonic() < end:
-        time.sleep(0.1)
-    return found
+    while not is_so() and time.monotonic() < end:
+        time.sleep(0.05)
+    return is_so()
 
 
 def linked(folder, tally, program):
@@ -80,19 +90,19 @@ def strangers(folder, tally):
 
 
 def broken(folder, tally, body, wanted):
-    """No call tells anything but that there is no answer. Then the server ends at once, whatever its processes do."""
-    server = Server(script(folder, body))
+    """No call tells anything but that there is no answer. And the server ends at once, whatever its processes do."""
+    server = Server(script(folder, body), clocks=None if wanted == "clock" else PATIENT)
     with concurrent.futures.ThreadPoolExecutor(len(CALLS)) as pool:
         for (call, _), reply in zip(CALLS, pool.map(lambda asked: server.ask(*asked), CALLS)):
             tally.same(f"{call} over `{body}`", (reply[0], reply[2]), (503, {"failed": wanted}))
     status = Path(f"/proc/{server.child.pid}/status").read_text()
     tally.true(f"memory over `{body}`", int(status.partition("VmHWM:")[2].split()[0]) < MEMORY)
+    server.stop()
+    server = Server(script(folder, body), clocks=PATIENT)
     with concurrent.futures.ThreadPoolExecutor(len(CALLS)) as pool:
         asked = [pool.submit(server.ask, *call) for call in CALLS]
-        time.sleep(0.3)
-        begun = time.monotonic()
-        tally.same(f"end over `{body}`", server.stop(), 0)
-        tally.true(f"end over `{body}` at once", time.monotonic() - begun < ENDED)
+        until(lambda: len(server.children()) == len(CALLS) or all(reply.done() for reply in asked))
+        tally.same(f"end over `{body}`, before the clock of any call", server.stop(), 0)
         for reply in asked:
             reply.exception()  # waits; some got no reply
     tally.same(f"what `{body}` leaves", left(f"{folder}/puzzles"), [])
@@ -100,12 +110,10 @@ def broken(folder, tally, body, wanted):
 
 def turns(folder, tally):
     """While all turns are taken a call waits for half a second, and is then told so."""
-    server = Server(script(folder, "sleep 600"))
+    server = Server(script(folder, "sleep 600"), clocks=(SLOW, 0.5))
     with concurrent.futures.ThreadPoolExecutor(SLOTS) as pool:
         slow = [pool.submit(server.ask, "grade", GOOD) for _ in range(SLOTS)]
-        end = time.monotonic() + WAIT
-        while len(server.children()) < SLOTS and time.monotonic() < end:
-            time.sleep(0.01)
+        until(lambda: len(server.children()) == SLOTS)
         begun = time.monotonic()
         status, headers, told = server.ask("grade", GOOD)
         waited = time.monotonic() - begun
@@ -117,15 +125,15 @@ def turns(folder, tally):
 
 def shares(folder, tally):
     """A visitor whom a server in front names has a share of the turns, so that another one is answered at once."""
-    server = Server(script(folder, "case \"$*\" in *2x2*) sleep 600 ;; esac; printf 'lines\\n'"))
+    server = Server(script(folder, "case \"$*\" in *2x2*) sleep 600 ;; esac; printf 'lines\\n'"), clocks=(SLOW, SLOW / 4))
     slow = {"game": "pattern", "id": "2x2:///"}
     with concurrent.futures.ThreadPoolExecutor(SLOTS) as pool:
         greedy = [pool.submit(server.ask, "grade", slow, None, "192.0.2.1") for _ in range(SLOTS)]
-        time.sleep(0.3)
-        begun = time.monotonic()
+        until(lambda: len(server.children()) == SHARE)
         told = [server.ask("grade", GOOD, None, f"192.0.2.1, 192.0.2.{k}")[2] for k in range(2, 6)]
         tally.same("visitors beside a greedy one", told, [{"verdict": "one", "grade": "lines"}] * 4)
-        tally.true("they don't wait", time.monotonic() - begun < 1.5)
+        slowest = [reply for reply in greedy if not reply.done() or reply.result()[2] == {"failed": "clock"}]
+        tally.same("they don't wait for it", [reply.done() for reply in slowest if reply.done()], [])
         failed = sorted(reply.result()[2]["failed"] for reply in greedy)
         tally.same("the calls of the greedy one", failed, ["busy"] * (SLOTS - SHARE) + ["clock"] * SHARE)
     server.stop()
@@ -141,6 +149,8 @@ def wrapped(folder, tally, program):
     server = Server(program)
     tally.same("generate of Solo 5x5", server.ask("generate", FIFTH)[::2], (503, {"failed": "clock"}))
     tally.same("what it began", left(FIFTH["seed"]), [])
+    server.stop()
+    server = Server(program, clocks=PATIENT)
     status, _, told = server.ask("generate", {**FIFTH, "budget": "0"})
     tally.same("generate of Solo 5x5 without guesses", (status, told.get("verdict")), (200, "made"))
     server.stop()
@@ -149,7 +159,7 @@ def wrapped(folder, tally, program):
 def replaced(folder, tally, program):
     """Another program in its place is taken by each call, also by a kept worker."""
     path = Path(script(folder, f"exec {program} \"$@\""))
-    server = Server(str(path))
+    server = Server(str(path), clocks=PATIENT)
     tally.same("solve before", server.ask("solve", GOOD)[2], {"verdict": "one", "grids": [["."]]})
     path.rename(Path(folder) / "old")
     tally.same("solve without a program", server.ask("solve", GOOD)[::2], (503, {"failed": "program"}))
@@ -163,7 +173,7 @@ def replaced(folder, tally, program):
 
 def many(program, tally):
     """Many short calls at a time wait for their turn, and all are answered."""
-    server = Server(program)
+    server = Server(program, clocks=PATIENT)
     with concurrent.futures.ThreadPoolExecutor(CLIENTS) as pool:
         told = list(pool.map(lambda _: server.ask("solve", GOOD)[2], range(POSTS)))
     others = [reply for reply in told if reply != {"verdict": "one", "grids": [["."]]}]
@@ -173,7 +183,7 @@ def many(program, tally):
 
 def silent(program, tally):
     """More connections that say nothing than the server may have files: they cost nothing, and others are answered."""
-    server = Server(program, before=["sh", "-c", f"ulimit -n {FILES}; exec \"$@\"", "sh"])
+    server = Server(program, before=["sh", "-c", f"ulimit -n {FILES}; exec \"$@\"", "sh"], clocks=PATIENT)
 
     def spent():
         times = Path(f"/proc/{server.child.pid}/stat").read_text().rpartition(") ")[2].split()[11:13]

@@ -11,7 +11,8 @@ from pathlib import Path
 TOP = Path(__file__).resolve().parents[2]
 PAGE, RUN = TOP / "page", TOP / "python" / "run"
 WEB = PAGE / "web"
-WAIT = 30  # seconds of any wait for the server
+WAIT = 120  # seconds of any wait for the server
+PATIENT = 600, 600  # seconds for an answer and for a turn: a busy machine doesn't break them
 TRIED = 300  # seconds in which a puzzle has to be made
 
 
@@ -34,9 +35,11 @@ class Tally:
 class Server:
     """The server as a process of its own, on a free port."""
 
-    def __init__(self, program, *more, before=(), script=RUN):
-        words = [*before, sys.executable, script, "page", "--port", "0", *more, program]
-        self.child = subprocess.Popen(words, stdin=subprocess.DEVNULL, stdout=subprocess.PIPE, text=True)
+    def __init__(self, program, *more, before=(), script=RUN, clocks=None):
+        """With other clocks than its own: seconds for an answer, and for a turn."""
+        tool = ["tests/page/clocks.py", *map(str, clocks)] if clocks else ["page"]
+        words = [*before, sys.executable, script, *tool, "--port", "0", *more, program]
+        self.child = subprocess.Popen(words, cwd=TOP, stdin=subprocess.DEVNULL, stdout=subprocess.PIPE, text=True)
         self.url = self.child.stdout.readline().strip()
         if not self.url:
             raise RuntimeError("the server said why it ended")

@@ -61,11 +61,11 @@ with puzzles.Worker("lightup", budget=2**64 - 1) as worker:
             break
     print(verdicts)
     worker.seconds = 60
-    first = worker.child.pid
-    worker.child.kill()
-    worker.child.wait()
-    print(worker.solve("2x2:2c").verdict, worker.child.pid != first)
-    worker.left = 1
+    first = worker.kept.process.child
+    first.kill()
+    first.wait()
+    print(worker.solve("2x2:2c").verdict, worker.kept.process.child.pid != first.pid)
+    worker.kept.left = 1
     print(worker.solve("2x2:2c").verdict)
     found = []
     threads = [threading.Thread(target=lambda: found.append(worker.solve("2x2:Bc").verdict)) for _ in range(20)]

@@ -1,15 +1,15 @@
-"""Properties of puzzles.ids, for texts that Hypothesis makes up: beside the program, and of reading, writing and drawing alone."""
+"""Properties of puzzles.ids for texts that Hypothesis makes up: beside the program, and of reading, writing and drawing."""
 import subprocess
 import xml.etree.ElementTree
 
 import pytest
 
 hypothesis = pytest.importorskip("hypothesis", reason="no hypothesis")
-from hypothesis import given, settings, strategies as st  # noqa: E402
+from hypothesis import HealthCheck, given, settings, strategies as st  # noqa: E402
 
 from puzzles.ids import GAMES, MOST_SIDE, Puzzle, Refused, read, read_grid, svg, written  # noqa: E402
 
-SETTINGS = settings(deadline=None, max_examples=300, derandomize=True)
+SETTINGS = settings(deadline=None, max_examples=300, derandomize=True, suppress_health_check=list(HealthCheck))
 SIGNS = st.text("0123456789abcxyzB_./,:#-", max_size=40)
 HEADS = st.tuples(st.sampled_from(["1", "2", "3", "02", "31", "120", "121", "9" * 30]), st.sampled_from(["", "x", "xx", "j"]),
                   st.sampled_from(["", "1", "2", "3", "6", "120"]), st.sampled_from(["", "x", "u"])).map("".join)
@@ -78,7 +78,7 @@ def test_any_bytes_are_read_or_refused(game, text):
 def test_faults_are_the_programs(program, game, texts):
     """A run of `solve` and `read` refuse the same texts in the same words."""
     done = subprocess.run([program, "solve", game, "--budget=0"], input=b"".join(text + b"\n" for text in texts),
-                          capture_output=True, timeout=60, check=False)
+                          capture_output=True, timeout=600, check=False)
     firsts = [line for line in done.stdout.decode().splitlines() if line[:1].islower()]
     assert len(firsts) == len(texts)
     for text, first in zip(texts, firsts):

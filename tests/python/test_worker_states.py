@@ -122,19 +122,21 @@ class Machine(RuleBasedStateMachine):
 
     @rule()
     def killed(self):
-        if self.worker.child:
-            self.worker.child.kill()
-            self.worker.child.wait()
+        if self.worker.kept.process:
+            self.worker.kept.process.child.kill()
+            self.worker.kept.process.child.wait()
 
     @rule()
     def closed(self):
         self.worker.close()
 
-    @rule(text=TEXTS)
-    def forked(self, text):
+    @rule(text=TEXTS, in_a_turn=st.booleans())
+    def forked(self, text, in_a_turn):
+        """Also while another thread has its turn, which the fork hasn't."""
         source, sink = multiprocessing.Pipe(False)
         child = multiprocessing.get_context("fork").Process(target=asked_in_child, args=(self.worker, text, sink))
-        child.start()
+        with self.worker.lock if in_a_turn else contextlib.nullcontext():
+            child.start()
         try:
             assert source.poll(BOUND / 2), "the child of a fork hangs"
             assert source.recv() == KNOWN[text]
@@ -159,7 +161,7 @@ class Machine(RuleBasedStateMachine):
     def dropped(self):
         """A Worker without `close` takes its process along."""
         self.worker.solve("2x2:2c")
-        pid = self.worker.child.pid
+        pid = self.worker.kept.process.child.pid
         self.worker = puzzles.Worker("lightup", budget=2**64 - 1, seconds=BOUND)
         gc.collect()
         assert pid not in processes(), "the process of a dropped Worker is left"
@@ -178,7 +180,7 @@ def machine_without(*names):
 
 
 HOW = settings(deadline=None, max_examples=25, stateful_step_count=12, derandomize=True, suppress_health_check=list(HealthCheck),
-               phases=[Phase.generate])  # a sequence that fails isn't shortened: each try may take its clock
+               phases=[Phase.generate], report_multiple_bugs=False)  # one that fails isn't shortened: each try may take its clock
 
 
 @pytest.mark.parametrize("without", [("forked", "dropped"), ("interrupted", "dropped"), ("interrupted", "forked")],

@@ -90,9 +90,10 @@ class Bench:
 
     def written(self, game, lines):
         """What ids.py writes for each line."""
-        done = subprocess.run([self.tools["puzzles-ids"], game], input=b"".join(line + b"\n" for line in lines), capture_output=True,
-                              timeout=SECONDS, env=self.environment, check=False)
-        expect(done.returncode in (0, 2) and not done.stderr, f"puzzles-ids {game}: status {done.returncode}: {done.stderr[-300:]}")
+        done = subprocess.run([self.tools["puzzles-ids"], game], input=b"".join(line + b"\n" for line in lines),
+                              capture_output=True, timeout=SECONDS, env=self.environment, check=False)
+        told = f"puzzles-ids {game}: status {done.returncode}: {done.stderr[-300:]}"
+        expect(done.returncode in (0, 2) and not done.stderr, told)
         return done.stdout.decode().splitlines()
 
     def answers(self, game, lines):
@@ -108,8 +109,8 @@ class Bench:
 
     def start(self, words, **more):
         """A process in a session of its own."""
-        return subprocess.Popen(self.line(words), stdin=subprocess.DEVNULL, stdout=subprocess.PIPE, stderr=subprocess.PIPE, encoding="utf-8",
-                                cwd=self.folder, env=self.environment, start_new_session=True, **more)
+        return subprocess.Popen(self.line(words), stdin=subprocess.DEVNULL, stdout=subprocess.PIPE, stderr=subprocess.PIPE,
+                                encoding="utf-8", cwd=self.folder, env=self.environment, start_new_session=True, **more)
 
     def small_disk(self, name, words):
         """A folder on a disk of its own, or None if this user may not mount one."""

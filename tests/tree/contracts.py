@@ -97,6 +97,31 @@ def functions(crate):
 
 
 @functools.cache
+def calls_in(crate):
+    """The names that each function of a crate calls, by its name: of all functions with that name together."""
+    found = collections.defaultdict(set)
+    for lines in sources(crate).values():
+        name = clause = None
+        for _trait, _kind, line in lines:
+            line = line.split("//")[0]
+            if head := FUNCTION.match(line):
+                name, line = head[2], line[head.end():]
+            clause = CLAUSE.match(line) or clause and not line.strip() == "{"
+            if name and not clause:
+                found[name] |= {*re.findall(r"(\w+)(?:::<.*?>)?\(", line)}
+    return dict(found)
+
+
+def called(crate, names):
+    """The functions of a crate with these names, and all that they call there, or that these call, by their names."""
+    calls, found, fresh = calls_in(crate), set(), set(names)
+    while fresh:
+        found |= fresh
+        fresh = set().union(*(calls.get(name, ()) for name in fresh)) & set(calls) - found
+    return found
+
+
+@functools.cache
 def ghosts(crate):
     """The ghost members of each trait and type of a crate, by both: the file, a name, and the lines that say it."""
     found = collections.defaultdict(list)

@@ -27,7 +27,7 @@ from tree import fifth_game
 TOP = pathlib.Path(__file__).resolve().parents[2]
 COLUMNS, WORDS = 130, 25
 HELP_SECONDS = 600
-PLACE = re.compile(r"(?:docs|bench|tests|packaging|python|examples|page|crates|\.ci)/[\w./-]*\w")
+PLACE = re.compile(r"(?:docs|bench|tests|packaging|python|examples|page|library|crates|\.ci)/[\w./-]*\w")
 NUMBER = re.compile(r"\d[\d,]*")
 NAME = re.compile(r"[A-Za-z_][\w-]*\w")
 
@@ -70,7 +70,7 @@ def links(path):
                 yield f"{path.relative_to(TOP)}:{number}: no such heading: {target}"
         for span in re.findall(r"`([^`]+)`", line):
             word = span.split(" ")[0]
-            if PLACE.fullmatch(word) and not re.search(r"NAME|/out/", word) and not [*TOP.glob(word), *TOP.glob(f"{word}.*")]:
+            if PLACE.fullmatch(word) and not re.search(r"NAME|/out(?:/|$)", word) and not [*TOP.glob(word), *TOP.glob(f"{word}.*")]:
                 yield f"{path.relative_to(TOP)}:{number}: no such place: {word}"
 
 
@@ -190,7 +190,7 @@ def stale(path):
 def scripts():
     """What is wrong with the scripts that a document names."""
     text = "".join(path.read_text() for path in documents())
-    named = re.findall(r"(?:bench|outside|examples|page)/[\w/]+\.(?:py|sh)", text)
+    named = re.findall(r"(?:bench|outside|examples|library|page)/[\w/]+\.(?:py|sh)", text)
     names = [name for name in named if (TOP / name).exists()]
     names += [f"bench/{name}" for name in re.findall(r"^\| `(\w+\.py)", (TOP / "bench" / "README.md").read_text(), re.M)]
     for name in sorted(set(names)):

@@ -9,7 +9,8 @@ usage: promises.py [--help]
 - Each public call has its row: it is named in a second column. Public calls are the `pub fn`s that a library's lib.rt hands on,
   by themselves, with their type or with their module; of the program those of PROGRAM in contracts.py. So are the members of the
   traits that it hands on: a row names one at the trait, or at a type that has it.
-- Each wrong body has one line `# refused by: FUNCTION.CLAUSE`, and there is such a clause: see the next paragraph.
+- Each wrong body has one line `# refused by: FUNCTION.CLAUSE`, and there is such a clause: see the next paragraph. The function
+  is a call of the wrong body's row, or one that such a call leads to.
 - What a second column names in code marks is there in some crate: calls, clauses, types and crates.
 - The column of definitions has words with their files, as "`IsClosing`, `IsDead` in [engine_core/ClosingList]", the groups parted
   by ";". It may say "the same" as the row above, or "none". Each word is defined in its file. It is named by the contract of a
@@ -30,7 +31,7 @@ import re
 import signal
 import sys
 
-from tree.contracts import (TOP, crates, defined, functions, ghosts, imports, is_member, is_private,
+from tree.contracts import (TOP, called, crates, defined, functions, ghosts, imports, is_member, is_private,
                        names, public_calls, public_clauses)
 
 MOST_BODIES = 3
@@ -91,6 +92,12 @@ def is_clause(crate, code, text):
     return clause in there | of_type & {"invariant", "from_gives"}
 
 
+def is_of_row(crate, row, text):
+    """Whether the clause after REFUSED_BY is of a call of the row, or of a function of the crate that such a call leads to."""
+    name = re.fullmatch(r"(?:\w+::)?(\w+)(?: of \w+)?(?:\.\w+)?", text)[1]
+    return name in called(crate, {call.name for call, _ in row.calls})
+
+
 def body_faults(code, table, named_by):
     """What is wrong with the files of wrong bodies, by the promises that name each."""
     rows_of = {body: row for row in table for body in row.bodies}
@@ -108,6 +115,8 @@ def body_faults(code, table, named_by):
             for line in lines:
                 if not is_clause(crate, code, line.removeprefix(REFUSED_BY)):
                     yield f"{where} no such clause: {line.removeprefix(REFUSED_BY)}"
+                elif file.stem in rows_of and not is_of_row(crate, rows_of[file.stem], line.removeprefix(REFUSED_BY)):
+                    yield f"{where} its row (line {rows_of[file.stem].number}) leads to no {line.removeprefix(REFUSED_BY)}"
 
 
 def rows(text):

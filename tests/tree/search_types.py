@@ -59,10 +59,50 @@ BODIES = (
 CHECK_SECONDS = 1800
 
 
+def parts(text):
+    """The parts of a text between commas that stand in no brackets."""
+    depth, part = 0, ""
+    for sign in text.replace("->", "  "):
+        depth += (sign in "<([{") - (sign in ">)]}")
+        if sign == "," and not depth:
+            yield part.strip()
+            part = ""
+        else:
+            part += sign
+    yield part.strip()
+
+
+def in_brackets(text):
+    """What stands between the bracket that a text begins with and the one that closes it."""
+    depth = 0
+    for at, sign in enumerate(text):
+        depth += (sign in "([{") - (sign in ")]}")
+        if not depth:
+            return text[1:at]
+    return ""
+
+
+def members(name, body):
+    """The fields of a type or a variant, each with its name, or with that of its owner, and its type."""
+    for part in parts(in_brackets(body)):
+        part = re.sub(r"^(?:#\[[^\]]*\]\s*)*(?:pub(?:\([^)]*\))?\s+)?", "", part)
+        named = re.match(r"(\w+)\s*:(?!:)\s*(.*)", part, re.S) if body.startswith("{") else None
+        if part and not part.startswith("ghost "):
+            yield (named[1], named[2]) if named else (name, part)
+
+
 def fields(text):
-    """The fields of the types of a file, by name, each with its type."""
-    for _, body in re.findall(r"(?ms)^(?:pub(?:\([^)]*\))? )?(struct|enum) [^;{]*\{\n(.*?)^\}", text):
-        yield from re.findall(r"(?m)^    (?:pub(?:\([^)]*\))? )?(\w+): (.*),$", body)
+    """The fields of the types of a file, also of tuple structs and of variants, by name, each with its type."""
+    text = re.sub(r"//[^\n]*", "", text)
+    text = re.sub(r"(?m)^ *ghost \w+: \{.*?\}(?: by \{.*?\})?,$", "", text, flags=re.S)
+    for head in re.finditer(r"(?m)^(?:pub(?:\([^)]*\))? )?(struct|enum) (\w+)(?:<[^({;]*?>)?[^({;]*(?=[({])", text):
+        kind, name, body = head[1], head[2], text[head.end():]
+        if kind == "struct":
+            yield from members(name, body)
+            continue
+        for variant in parts(in_brackets(body)):
+            own = re.match(r"(?:#\[[^\]]*\]\s*)*(\w+)\s*(?=[({])", variant)
+            yield from members(own[1], variant[own.end():]) if own else ()
 
 
 def left_fields():
@@ -71,6 +111,7 @@ def left_fields():
         for path in sorted((TOP / "crates" / crate / "src").rglob("*.rt")):
             place = str(path.relative_to(TOP / "crates"))
             for name, kind in fields(path.read_text(encoding="utf-8")):
+                kind = " ".join(kind.split())
                 if GROWING.search(kind) and (place, name) not in KEPT:
                     yield f"{place}: {name}: {kind}"
 

@@ -28,7 +28,6 @@ not_run=(
     '(cd crates/grid_core && rt check --only grid_core::board::Board::has_empty_cell --allow-holes)'
     '(cd crates/core_tests && rt try --test -- sizes_have_bounds)'
     '(cd crates/core_tests && rt test)'
-    'rt ci'
     'python/run page ~/.local/bin/puzzles'
     'python/run page-static ~/puzzles-page'
     'python3 -m http.server --bind 127.0.0.1 --directory ~/puzzles-page 8017'

@@ -1,11 +1,11 @@
 -- What the laws rest on for each game, and least budgets.
 use Rattle.commands.proofs.Common.{AllowsCheck, AllowsGrid, AllowsSolve, Answer, ArePassed, Bool, ByRules, BySearch, Crossings, Err, Game, Grade, GradedPuzzlesHaveOne, HasAnswers, HasOneAnswer, HasOneReading, HasOneSolution, HasTwo, Houses, IdFault, IsLeastBudget, IsOnlySolution, IsPrinted, IsRight, IsRightGrade, IsSolo, IsSolved, Lines, List, Local, MadePuzzle, Mark, NamedRules, NamesSearch, NamesSet, None, Option, Outcome, Outcome.GaveUp, Outcome.NoSolution, Outcome.OneSolution, Outcome.SeveralSolutions, Passes, PuzzleFacts, Result, RuleSystem, SaysGrade, SearchesNameLeastBudgets, Singles, SizeRead, Solo, Solves, Some, Text, TooLong, Wanted, [], ap, arith, codes, common_steps, cond_both, crossings_rules, drop, eq-or-lt_of_le, false_from_ne_true, game_of, gave_up_answer, grade_by, grade_text, houses_rules, inl, inr, is_ok, is_settled, length, light_is_written, light_reading, light_rules, line_rules, listed_grade, max_id, one_answer, only_set, outcome, pattern_is_written, pattern_reading, printed_by, puzzle_type, puzzle_too_long, refl, refused, searched_grade, singles_rules, slice_index, solo_is_written, solo_reading, solo_sets, subst, sym, tent_rules, tents_is_written, tents_reading, trials_in, true, true≢false, verdict_answer, verdict_of, walk, without_returns, ℕ, ◌++◌, ◌<◌, ◌↔◌, ◌∙◌, ◌∷◌, ◌≡◌, ◌≢◌, ◌≤◌, ◌⊎◌}
 use Rattle.gameid_core.specs.declared.id.game.Game.TheVariants as game
-use Rattle.solo_core.proofs.SinglesLemmas.{singles_in_houses}
 use Rattle.commands.specs.CheckAnswers.{checked as correct_or}
-use Rattle.commands.proofs.GradeLemmas.{graded_one, is_within, named_or_searched, own_named, settled_by_stronger, settled_one, spent_whole, status_one, told_status, weaker_named}
+use Rattle.commands.proofs.GradeLemmas.{graded_one, is_within, named_or_searched, own_named, settled_one, spent_whole, status_one, told_status, weaker_named}
 use Rattle.commands.proofs.Readings.{answer_to, id_once}
 use Rattle.commands.proofs.CheckedPuzzles.{CheckedPuzzle, correct_grid, light_checked, pattern_checked, printed_apart, solo_checked, tents_checked}
+use Rattle.commands.proofs.RuleSetOrder.{houses_settle}
 use Rattle.commands.proofs.SearchedPuzzles.{SearchedPuzzle, crossings_searched, found_with_enough, light_searched, pattern_searched, singles_searched, solo_searched, solved_once, tents_searched, verdict_right}
 use Rattle.engine_core.proofs.SearchLemmas.{spent-le}
 
@@ -150,10 +150,7 @@ listed_right {solves} (first ∷ rest) {search} budget each searched =
 solo_named : (p : Solo) → IsSolo p → (budget : ℕ) → is_within (listed_grade (solo_sets p) (houses_rules p) budget) ≡ is_settled (houses_rules p)
 solo_named p ok budget = weaker_named (houses_rules p) budget Singles (singles_rules p)
     (record { set = Houses; rules = houses_rules p } ∷ only_set Crossings (crossings_rules p)) refl
-    (settled_by_stronger (singles_searched p ok).lawful (solo_searched ok).lawful refl refl refl
-    (λ g s. record { grid = s.grid; good = s.good })
-    (λ K closed h place v lt on. false_from_ne_true _ (λ struck. let both = singles_in_houses p ok h K place v lt struck in
-    true≢false (sym both.1 ∙ closed h place v both.0 on))))
+    (houses_settle p ok)
     (own_named (houses_rules p) budget Houses (only_set Crossings (crossings_rules p)) refl (refl, tt))
 
 pub record GameLaws {P : Type 0} (play : PuzzleFacts P) : Type 0 where

@@ -5,6 +5,7 @@ pub mod GradeLemmas
 pub mod Readings
 pub mod CheckedPuzzles
 pub mod SearchedPuzzles
+pub mod RuleSetOrder
 pub mod GameLaws
 pub mod Fillings
 pub mod RequestsAnswered

@@ -1,13 +1,13 @@
 -- What ties the commands to one another: what they say of one ID and of what one of them hands out,
 -- and how many answers a request allows.
-use Rattle.std.specs.Prelude.{◌≡◌, ◌↔◌, ◌⊎◌, ℕ, Bool, Some, ◌≢◌, None, ◌<◌, ◌≤◌, ◌++◌, [], true, false, codes, decimal, List, Contains, Option}
+use Rattle.std.specs.Prelude.{◌≡◌, ◌↔◌, ◌⊎◌, ℕ, Bool, Some, ◌≢◌, None, ◌<◌, ◌≤◌, ◌++◌, [], ◌∷◌, true, false, codes, decimal, List, All, Contains, Option, ⊤}
 use Rattle.gameid_core.specs.declared.id.game.Game.TheVariants as game
 use Rattle.gameid_core.specs.LightText.{SpellsLight}
 use Rattle.gameid_core.specs.SoloText.{SpellsSolo}
 use Rattle.maker_core.specs.LightMaking.{IsLightMade, SameLight, light_game}
 use Rattle.maker_core.specs.SoloMaking.{solo_game, SameSolo}
 use Rattle.maker_core.specs.declared.made.Why.TheVariants.{Needed}
-use Rattle.commands.specs.Common.{Stream, Extent, Game, IsPrinted, Light, Solo, IsSoloMade, Kept}
+use Rattle.commands.specs.Common.{Stream, Extent, Game, IsPrinted, Light, Solo, IsSoloMade, Kept, is_settled}
 use Rattle.commands.specs.Answers.{Answer, Asked, Begins, Text, check, code_of, generate, grade, solve}
 use Rattle.commands.specs.Games.{game_of, puzzle_type}
 use Rattle.commands.specs.LightFacts.{light_facts}
@@ -17,7 +17,7 @@ use Rattle.commands.specs.Allowed.{Allows, AllowsCheck, AllowsSolve, AllowsGrade
 use Rattle.commands.specs.Each.{HasAnswers}
 use Rattle.commands.specs.CheckAnswers.{checked, without_returns}
 use Rattle.commands.specs.Replies.{gave_up_answer, one_answer, several_answer}
-use Rattle.commands.specs.Grades.{rule_set_text}
+use Rattle.commands.specs.Grades.{NamedRules, rule_set_text}
 use Rattle.commands.specs.declared.answers.status.Status.TheVariants.{Fine, Wrong, Several, GaveUp}
 use Rattle.commands.specs.declared.grade.GradedRules.{GradedRules}
 use Rattle.commands.specs.declared.grade.GradedRules.TheVariants.{Singles, Houses, Crossings, Lines, Local}
@@ -130,6 +130,18 @@ RuleSetsNeedNoTrial = (game : Game) (id : Text) (budget : ℕ) (traced : Bool)
     → AllowsSolve (game_of game) id 0 solved
     → AllowsGrade (game_of game) id budget traced graded
     → (NamesSetNoStrongerThanSearch graded ↔ (solved.status ≡ code_of Fine))
+
+-- what a rule set of the list settles, each later one settles too
+abbrev pub LaterSetsSettleAsMuch : List NamedRules → Type 0
+LaterSetsSettleAsMuch [] = ⊤
+LaterSetsSettleAsMuch (first ∷ rest) =
+    (is_settled first.rules ≡ true → All (λ set. is_settled set.rules ≡ true) rest)
+    × LaterSetsSettleAsMuch rest
+
+-- so the first rule set that settles a puzzle, by which it is graded, is the weakest that does
+abbrev pub GradesNameTheWeakest : Type 0
+GradesNameTheWeakest = (game : Game) (id : Text) (p : puzzle_type game)
+    → (game_of game).game.spells id p → LaterSetsSettleAsMuch ((game_of game).game.sets p)
 
 -- so many trials are the least budget with which the one answer to the ID tells one solution
 pub record IsLeastBudget (game : Game) (id : Text) (trials : ℕ) : Type 0 where

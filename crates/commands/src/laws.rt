@@ -4,7 +4,7 @@ ghost use Rattle.commands.specs.Common.{Game};
 ghost use Rattle.commands.specs.Allowed.{AllowsSolve};
 ghost use Rattle.commands.specs.Games.{game_of};
 ghost use Rattle.commands.specs.Each.{HasAnswers};
-ghost use Rattle.commands.specs.LawsOfCommands.{EachRequestHasAnAnswer, FixedRequestsHaveOneAnswer, SoloDiffersAtMostInGivens, LightsDifferInNumbers, CorrectMeansNeverNone, CorrectGridsAreTheOneTold, SolvedGridsPass, GradedPuzzlesHaveOne, GradesGoWithVerdicts, RuleSetsNeedNoTrial, SearchesNameLeastBudgets, LightsNeedTheirClues, MadePuzzlesAreSolved, SoloNeedsItsClues, RewritingKeepsAnswers};
+ghost use Rattle.commands.specs.LawsOfCommands.{EachRequestHasAnAnswer, FixedRequestsHaveOneAnswer, SoloDiffersAtMostInGivens, LightsDifferInNumbers, CorrectMeansNeverNone, CorrectGridsAreTheOneTold, SolvedGridsPass, GradedPuzzlesHaveOne, GradesNameTheWeakest, GradesGoWithVerdicts, RuleSetsNeedNoTrial, SearchesNameLeastBudgets, LightsNeedTheirClues, MadePuzzlesAreSolved, SoloNeedsItsClues, RewritingKeepsAnswers};
 
 /// Each text has an answer of `solve`, for each game and budget: it spells a puzzle or has a fault,
 /// and the verdict of a puzzle's walk is right of its solutions.
@@ -50,6 +50,12 @@ pub fn grades_agree()
     ensures enough { GradedPuzzlesHaveOne }
     ensures least { SearchesNameLeastBudgets }
     ensures rule_sets { RuleSetsNeedNoTrial }
+{}
+
+/// What a rule set of a game's list settles, each later one settles too. A grade is by the first that
+/// settles the puzzle. So it names the weakest.
+pub fn grades_name_the_weakest()
+    ensures { GradesNameTheWeakest }
 {}
 
 /// A made puzzle is solved: its ID is read; with the budget that it was made with, `solve` tells of

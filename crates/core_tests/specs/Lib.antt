@@ -1,2 +1,4 @@
 pub mod Neighbours
 pub mod NeighboursLaws
+pub mod Listed
+pub mod ListedLaws

@@ -19,11 +19,11 @@ pub pair-has : (h c : ℕ) → h ≤ c → c ≤ h + 1 → has_place (h ∷ (h +
 unfolding has_place
 pair-has h c low high = grind (arith, common_steps, eq-eqb h c, eq-eqb (h + 1) c)
 
-pair-different : (h : ℕ) → AreDifferent (h ∷ (h + 1) ∷ [])
+pub pair-different : (h : ℕ) → AreDifferent (h ∷ (h + 1) ∷ [])
 pair-different h e on off also then = grind (arith, common_steps)
 
 -- ---- the bound: a cell is in two houses at most
-again : (n c : ℕ) → count_below (λ h. has_place (h ∷ (h + 1) ∷ []) c) n - 1 ≤ 1
+pub again : (n c : ℕ) → count_below (λ h. has_place (h ∷ (h + 1) ∷ []) c) n - 1 ≤ 1
 again n c =
     let a = count_below-few (λ h. eqb h c) n (λ k j _ _ ek ej. eqb-true k c ek ∙ sym (eqb-true j c ej)) in
     let b = count_below-few (λ h. eqb (h + 1) c) n (λ k j _ _ ek ej. omega (arith, eqb-true (k + 1) c ek, eqb-true (j + 1) c ej)) in
@@ -31,7 +31,7 @@ again n c =
     (λ h lt on. grind (arith, common_steps, pair-cases h c on, eq-eqb)) in
     omega (arith, a, b, both)
 
-sum_few : (f : ℕ → ℕ) (most n : ℕ) → ((c : ℕ) → f c ≤ most) → sum_below f n ≤ n * most
+pub sum_few : (f : ℕ → ℕ) (most n : ℕ) → ((c : ℕ) → f c ≤ most) → sum_below f n ≤ n * most
 unfolding sum_below
 sum_few f most zero few = omega arith
 sum_few f most (suc n) few = let rest = sum_few f most n few in let here = few n in omega arith

@@ -31,6 +31,22 @@ fn puzzles_are_made_of_parts(rt: HostRuntime) -> Result<(), Fail> {
     Ok(())
 }
 
+/// The ID of the puzzle of Pattern whose clues are the runs of a grid of 3 by 2 cells.
+fn of_grid(alloc: Global, numbers: &str) -> Result<String, Fail> {
+    let (size, grid) = (Size::new(3, 2).unwrap(), grid_of(alloc, numbers)?);
+    if !grid.fits(size.cells(), 2) {
+        return Ok(Err("a grid")?);
+    }
+    let puzzle = PatternPuzzle::of_grid(alloc, size, &grid)?;
+    Ok(write_pattern(alloc, &puzzle)?)
+}
+
+#[test]
+fn clues_are_the_runs_of_a_grid(rt: HostRuntime) -> Result<(), Fail> {
+    assert_eq!(rt; of_grid(rt.alloc(), "110101")?.as_str(), "3x2:2/1/1/2/1.1");
+    Ok(())
+}
+
 /// The IDs of a blank puzzle of 2 by 3 blocks, of it with three givens, and of a copy without one of these, and whether that
 /// is of Solo X; its blocks, its numbers, and its first given.
 fn solo_set(alloc: Global, x: bool) -> Result<(String, [u8; 4]), Fail> {

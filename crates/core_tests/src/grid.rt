@@ -62,8 +62,9 @@ impl Edges for Joined {
 
 /// The mates of the lefts if all have one, and which are short.
 fn paired(alloc: Global, rights: [u8; 3]) -> Result<(Option<[usize; 3]>, Vec<usize>), AllocError> {
-    let mut pairing = Pairing::new(alloc, 3)?;
-    let mates = match pairing.run(&Joined { rights }) {
+    let joined = Joined { rights };
+    let mut pairing = Pairing::new(alloc, joined.rights())?;
+    let mates = match pairing.run(&joined) {
         Paired::All => Some([pairing.mate(0), pairing.mate(1), pairing.mate(2)]),
         Paired::Short => None,
     };
@@ -115,13 +116,15 @@ fn struck_twice(alloc: Global) -> Result<(usize, [bool; 2], bool), AllocError> {
     Ok((count, [strikes, board.strike(0, 1)], full))
 }
 
-/// Of a board like that, which loses both values: whether a cell is empty then, whether it has a value that is restored,
-/// whether it is full, and the counts when it is filled again, when it keeps 1 alone, and of another that takes it over.
+/// Of a board like that, which loses both values: whether a cell is empty then and the board isn't full, whether it has a value
+/// that is restored twice, whether it is full, and the counts when it is filled again, when it keeps 1 alone, and of another
+/// that takes it over.
 fn restored(alloc: Global) -> Result<([bool; 3], [usize; 3]), AllocError> {
     let (mut board, mut other) = (Board::new(alloc, 1, 2)?, Board::new(alloc, 1, 2)?);
     board.strike(0, 0);
     board.strike(0, 1);
-    let empty = board.has_empty_cell();
+    let empty = board.has_empty_cell() && !board.is_full();
+    board.restore(0, 1);
     board.restore(0, 1);
     let left = [empty, board.has(0, 1), board.is_full()];
     board.fill();

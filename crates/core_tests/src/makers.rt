@@ -63,6 +63,26 @@ fn givens_are_left_for_a_reason(rt: HostRuntime) -> Result<(), Fail> {
     Ok(())
 }
 
+/// The fault of a puzzle of Solo that is too small, without a try, and of one of Tents that is too small; and the first word
+/// that is drawn after that.
+fn too_small(alloc: Global) -> (Option<MakeFault>, Option<MakeFault>, u32) {
+    let (budget, tries) = (1_000, 0);
+    let limits = Limits { budget, tries };
+    let solo = make_solo(alloc, 1, 4, false, &mut generator(), limits).err();
+    let (mut rng, size) = (ChaCha8Rng::from_seed([0; 32]), Size::new(3, 3).unwrap());
+    let tents = make_tents(alloc, size, &mut rng, limits).err();
+    (solo, tents, rng.next_u32().swap_bytes())
+}
+
+#[test]
+fn sizes_are_refused_before_tries_and_draws(rt: HostRuntime) -> Result<(), Fail> {
+    let (solo, tents, word) = too_small(rt.alloc());
+    assert!(rt; matches!(solo, Some(MakeFault::SizeRange)));
+    assert!(rt; matches!(tents, Some(MakeFault::SizeRange)));
+    assert_eq!(rt; word, 0x3e00ef2f);
+    Ok(())
+}
+
 /// The IDs of what is made of black cells alone, of Pattern and of Light Up, and how many numbers are left.
 fn all_black(alloc: Global) -> Result<String, Fail> {
     let (size, budget, tries) = (Size::new(2, 2).unwrap(), 0, 1);

@@ -82,7 +82,7 @@ fn trials(alloc: Global, game: Game, id: &str) -> Result<Option<Walked>, Fail> {
 }
 
 /// Puzzles of 16 cells at most, and the verdict on each.
-static PUZZLES: [(Game, &str, Verdict); 37] = [
+static PUZZLES: [(Game, &str, Verdict); 42] = [
     (Game::Solo, "2x2:1_1n", Verdict::None),
     (Game::Solo, "2x2:d3_4j", Verdict::Several),
     (Game::Solo, "2x2:1c2c3c4c", Verdict::Several),
@@ -99,6 +99,7 @@ static PUZZLES: [(Game, &str, Verdict); 37] = [
     (Game::Solo, "3x2:5g1a6_5a4c2b3a4a3h6b", Verdict::One),
     (Game::Solo, "3x2x:g2g1d3b5g4d", Verdict::One),
     (Game::Solo, "2x2x:1d1j", Verdict::None),
+    (Game::Solo, "2x3:e2_1h1l1g", Verdict::None),
     (Game::Pattern, "2x1:1/1/1", Verdict::None),
     (Game::Pattern, "5x1:1/1//1/1/2.2", Verdict::One),
     (Game::Pattern, "3x2:1/2/1/2/2", Verdict::Several),
@@ -106,6 +107,7 @@ static PUZZLES: [(Game, &str, Verdict); 37] = [
     (Game::Pattern, "4x4:2/2/2/2/2/2/2/2", Verdict::Several),
     (Game::Pattern, "4x4:1.1/1/2/1.1/1/2/1.1/1.1", Verdict::One),
     (Game::Pattern, "4x3:1/1.1/1/1/1/1/1.1", Verdict::None),
+    (Game::Pattern, "1x4:1.2/1//1/1", Verdict::One),
     (Game::LightUp, "2x2:d", Verdict::Several),
     (Game::LightUp, "2x2:Bc", Verdict::Several),
     (Game::LightUp, "2x2:1c", Verdict::None),
@@ -124,6 +126,9 @@ static PUZZLES: [(Game, &str, Verdict); 37] = [
     (Game::Tents, "4x3:dbd,1,0,0,1,1,0,1", Verdict::Several),
     (Game::Tents, "4x4:p,0,0,0,0,0,0,0,0", Verdict::One),
     (Game::Tents, "4x4:abcdb,1,1,1,1,1,1,1,1", Verdict::None),
+    (Game::Tents, "4x2:_bd,0,1,1,0,2,0", Verdict::None),
+    (Game::Tents, "4x4:abbh,1,0,1,1,2,0,1,0", Verdict::One),
+    (Game::Tents, "4x4:_i_d,0,1,1,1,1,1,0,1", Verdict::One),
 ];
 
 #[test]

@@ -23,11 +23,7 @@ fn left_by<R: Searchable>(alloc: Global, rules: &R, place: usize) -> Result<u32,
 }
 
 /// The same of the puzzle with the ID.
-fn left<S: Noted<Puzzle = SoloPuzzle>>(
-    alloc: Global,
-    id: &str,
-    place: usize,
-) -> Result<u32, Fail> {
+fn left<S: Noted<Puzzle = SoloPuzzle>>(alloc: Global, id: &str, place: usize) -> Result<u32, Fail> {
     let rules = solo::<S>(alloc, id)?;
     Ok(left_by(alloc, &rules, place)?)
 }

@@ -1,6 +1,7 @@
 //! The room of a store, and used stores beside new ones.
 
 use crate::rules::{lights, pattern, solo, tents};
+use crate::small::Walked;
 use engine_core::{Searchable, Store, Verdict};
 use gameid_core::Game;
 use grid_core::Grid;
@@ -91,6 +92,11 @@ const WHITE: &str = "12x12:zzzzzn";
 const LONG: &str = "72x2:aBBBBBBBBBBBBBBBBBBBBBBBBBBBBBBBBBBBBBBBBBBBBBBBBBBBBBBBBBBBBBBBBBBBBBBB\
     BBBBBBBBBBBBBBBBBBBBBBBBBBBBBBBBBBBBBBBBBBBBBBBBBBBBBBBBBBBBBBBBBBBBBBBB";
 
+/// As many cells: column 0 has a white one with a bulb, and column 64 one without, beside the 0, and one with a bulb below it.
+const APART: &str =
+    "72x2:aBBBBBBBBBBBBBBBBBBBBBBBBBBBBBBBBBBBBBBBBBBBBBBBBBBBBBBBBBBBBBB0aBBBBBBBBBB\
+    BBBBBBBBBBBBBBBBBBBBBBBBBBBBBBBBBBBBBBBBBBBBBBBBBBBBBBBBBBBBBaBBBBBBB";
+
 const WIDE: &str = "6x4:hbdbd,1,0,0,1,1,1,1,1,0,2";
 
 const TALL: &str = "4x6:am_f_,1,1,1,1,0,1,1,0,0,2";
@@ -105,12 +111,13 @@ const ONE: Option<Verdict> = Some(Verdict::One);
 const SEVERAL: Option<Verdict> = Some(Verdict::Several);
 
 /// Puzzles, and the verdict on the second in a store of the first, if it has room.
-static USED: [(Game, &str, &str, Option<Verdict>); 10] = [
+static USED: [(Game, &str, &str, Option<Verdict>); 11] = [
     (Game::Solo, HALF, LESS, SEVERAL),
     (Game::Pattern, "2x2:1/1/1/1", "2x2:2/2/2/2", ONE),
     (Game::Pattern, "2x2:1/1/1/1", "2x3:////", None),
     (Game::LightUp, "2x2:2c", "2x2:Bc", SEVERAL),
     (Game::LightUp, WHITE, LONG, ONE),
+    (Game::LightUp, WHITE, APART, ONE),
     (Game::LightUp, LONG, LONG, ONE),
     (Game::LightUp, LONG, WHITE, None),
     (Game::Tents, WIDE, TALL, ONE),
@@ -124,6 +131,54 @@ fn used_stores_serve_as_new_ones(rt: HostRuntime) -> Result<(), Fail> {
         let told = solved_after(rt.alloc(), game, first, second)?;
         let same = verdict.map(|verdict| (verdict, true));
         assert_eq!(rt; told, same, "{game:?} {second}");
+    }
+    Ok(())
+}
+
+/// How a search with a budget ends in a store that has made the whole search: the verdict, the trials, and the most that are
+/// open at once.
+fn searched<R: Searchable>(alloc: Global, rules: &R, budget: u64) -> Result<Walked, AllocError> {
+    let mut store = Store::new(alloc, rules)?;
+    store.solve(rules, 100);
+    let verdict = store.solve(rules, budget);
+    Ok((verdict, store.trials(), store.deepest()))
+}
+
+/// The same of the puzzle of a game with the ID.
+fn walked(alloc: Global, game: Game, id: &str, budget: u64) -> Result<Walked, Fail> {
+    Ok(match game {
+        Game::Solo => searched(alloc, &solo::<SoloFillings>(alloc, id)?, budget)?,
+        Game::Pattern => searched(alloc, &pattern(alloc, id)?, budget)?,
+        Game::LightUp => searched(alloc, &lights(alloc, id)?, budget)?,
+        Game::Tents => searched(alloc, &tents(alloc, id)?, budget)?,
+    })
+}
+
+const NONE_FOUND: Verdict = Verdict::GaveUp { found: false };
+
+const ONE_FOUND: Verdict = Verdict::GaveUp { found: true };
+
+/// Short walks with the budget that is enough, and with less.
+static BUDGETS: [(Game, &str, u64, Walked); 9] = [
+    (Game::Pattern, "2x2:1/1/1/1", 2, (Verdict::Several, 2, 1)),
+    (Game::Pattern, "2x2:1/1/1/1", 1, (ONE_FOUND, 1, 1)),
+    (Game::Pattern, "2x2:1/1/1/1", 0, (NONE_FOUND, 0, 0)),
+    (Game::Solo, "2x2:p", 8, (Verdict::Several, 8, 7)),
+    (Game::Solo, "2x2:p", 7, (ONE_FOUND, 7, 7)),
+    (Game::LightUp, "3x3:aBBa1aBb", 4, (Verdict::One, 4, 2)),
+    (Game::LightUp, "3x3:aBBa1aBb", 3, (ONE_FOUND, 3, 2)),
+    (Game::LightUp, "3x3:aBBa1aBb", 1, (ONE_FOUND, 1, 1)),
+    (Game::LightUp, "3x3:aBBa1aBb", 0, (NONE_FOUND, 0, 0)),
+];
+
+#[test]
+fn less_than_a_walk_is_given_up(rt: HostRuntime) -> Result<(), Fail> {
+    for &(game, id, budget, stated) in BUDGETS.iter() {
+        assert_eq!(rt;
+            walked(rt.alloc(), game, id, budget)?,
+            stated,
+            "{id} {budget}"
+        );
     }
     Ok(())
 }

@@ -1,5 +1,5 @@
 -- What a call leaves in its caller's memory, and what it is asked for.
-use Rattle.std.specs.Prelude.{◌≡◌, ◌<◌, ◌≤◌, ◌==◌, ℕ, Bool, List, Option, Some, None, if◌then◌else◌, nat_le, length, option_map, option_and_then, take}
+use Rattle.std.specs.Prelude.{◌≡◌, ◌<◌, ◌≤◌, ◌==◌, ℕ, List, Option, Some, None, if◌then◌else◌, nat_le, nat_lt, length, option_map, option_and_then, take}
 use Rattle.gameid_core.specs.declared.id.game.Game.{Game}
 use Rattle.gameid_core.specs.declared.id.game.Game.TheVariants as game
 use Rattle.commands.specs.Answers.{Answer, Asked, Text, answer_with, check, generate, grade, solve, status_of}
@@ -33,8 +33,10 @@ asks_each number budget = option_map (λ g. solve g None budget) (numbered numbe
 abbrev pub asks_check : ℕ → Text → Option Asked
 asks_check number id = option_map (λ g. check g id) (numbered number)
 
-abbrev pub asks_grade : ℕ → Text → ℕ → Bool → Option Asked
-asks_grade number id budget traced = option_map (λ g. grade g id budget traced) (numbered number)
+-- with a trace unless the number for that is 0
+abbrev pub asks_grade : ℕ → Text → ℕ → ℕ → Option Asked
+asks_grade number id budget traced =
+    option_map (λ g. grade g id budget (nat_lt 0 traced)) (numbered number)
 
 abbrev pub asks_generate : ℕ → Text → ℕ → ℕ → ℕ → ℕ → Option Asked
 asks_generate number size seed budget tries black = option_and_then

@@ -1,14 +1,14 @@
 //! The calls that the library exports. A game is a number from 0 to 3, in the order of
 //! `gameid_core::Game`, and C passes a text as an address and a length. The status is that of the
 //! program for the same words and input, or `TOO_SMALL`.
-ghost use Rattle.std.specs.Prelude.{◌≡◌, ◌≤◌, []};
+ghost use Rattle.std.specs.Prelude.{◌≡◌, ◌≢◌, ◌<◌, ◌≤◌, [], drop, length};
 ghost use Rattle.commands.specs.Allowed.{Allows};
 ghost use Rattle.puzzles_c.specs.Calls.{NeedsRoom, Tells, asks_check, asks_each, asks_generate, asks_grade, asks_solve};
 
 use crate::asked::{game_numbered, numbers_refused};
-use crate::on_bytes::{checked, graded, solved_each};
+use crate::on_bytes::{READ_LIMIT, checked, graded, solved_each};
 use crate::output::{TOO_SMALL, put, put_reply};
-use commands::{GradeOptions, NO_MEMORY, Percent, Recipe, Stores, Task, generated};
+use commands::{BROKEN, GradeOptions, NO_MEMORY, Percent, Recipe, Stores, Task, generated};
 use maker_core::Limits;
 use std::alloc::Global;
 
@@ -31,6 +31,9 @@ pub extern "C" fn puzzles_solve(
     ensures small { NeedsRoom (Allows (asks_solve game id.now budget) [])
         output.old written.new result }
     ensures same { NO_MEMORY ≤ result → output.new ≡ output.old }
+    ensures rest { drop written.new output.new ≡ drop written.new output.old }
+    ensures none { NO_MEMORY ≤ result → result ≤ BROKEN → written.new ≡ 0 }
+    ensures whole { result ≢ BROKEN }
 {
     let reply = match game_numbered(game) {
         Some(game) => {
@@ -59,6 +62,9 @@ pub extern "C" fn puzzles_solve_each(
     ensures small { NeedsRoom (Allows (asks_each game budget) lines.now)
         output.old written.new result }
     ensures same { NO_MEMORY ≤ result → output.new ≡ output.old }
+    ensures rest { drop written.new output.new ≡ drop written.new output.old }
+    ensures none { NO_MEMORY ≤ result → result ≤ BROKEN → written.new ≡ 0 }
+    ensures broken { result ≡ BROKEN → READ_LIMIT < length lines.now }
 {
     match game_numbered(game) {
         Some(game) => {
@@ -85,6 +91,9 @@ pub extern "C" fn puzzles_check(
     ensures small { NeedsRoom (Allows (asks_check game id.now) grid.now)
         output.old written.new result }
     ensures same { NO_MEMORY ≤ result → output.new ≡ output.old }
+    ensures rest { drop written.new output.new ≡ drop written.new output.old }
+    ensures none { NO_MEMORY ≤ result → result ≤ BROKEN → written.new ≡ 0 }
+    ensures broken { result ≡ BROKEN → READ_LIMIT < length grid.now }
 {
     match game_numbered(game) {
         Some(game) => {
@@ -95,14 +104,14 @@ pub extern "C" fn puzzles_check(
     }
 }
 
-/// How hard a puzzle is, as `grade GAME ID --budget B` says it, with `--trace` or without.
+/// How hard a puzzle is, as `grade GAME ID --budget B` says it, with `--trace` unless `traced` is 0.
 #[unsafe(no_mangle)]
 pub extern "C" fn puzzles_grade(
     alloc: Global,
     game: u8,
     id: &[u8],
     budget: u64,
-    traced: bool,
+    traced: u8,
     output: &mut [u8],
     written: &mut usize,
 ) -> u8
@@ -112,9 +121,13 @@ pub extern "C" fn puzzles_grade(
     ensures small { NeedsRoom (Allows (asks_grade game id.now budget traced) [])
         output.old written.new result }
     ensures same { NO_MEMORY ≤ result → output.new ≡ output.old }
+    ensures rest { drop written.new output.new ≡ drop written.new output.old }
+    ensures none { NO_MEMORY ≤ result → result ≤ BROKEN → written.new ≡ 0 }
+    ensures whole { result ≢ BROKEN }
 {
     match game_numbered(game) {
         Some(game) => {
+            let traced = traced != 0;
             let options = GradeOptions { budget, traced };
             let (text, status) = graded(alloc, game, id, options);
             put(&text, status, output, written)
@@ -143,6 +156,9 @@ pub extern "C" fn puzzles_generate(
     ensures small { NeedsRoom (Allows (asks_generate game size.now seed budget tries black) [])
         output.old written.new result }
     ensures same { NO_MEMORY ≤ result → output.new ≡ output.old }
+    ensures rest { drop written.new output.new ≡ drop written.new output.old }
+    ensures none { NO_MEMORY ≤ result → result ≤ BROKEN → written.new ≡ 0 }
+    ensures whole { result ≢ BROKEN }
 {
     let reply = match game_numbered(game) {
         Some(game) if black <= MOST_BLACK => {
@@ -158,4 +174,12 @@ pub extern "C" fn puzzles_generate(
         _ => numbers_refused(alloc),
     };
     put_reply(&reply, output, written)
+}
+
+/// The number of this version: a hundred times the first part of its name, and the second.
+#[unsafe(no_mangle)]
+pub extern "C" fn puzzles_version() -> u32
+    ensures { result ≡ 1 }
+{
+    1
 }

@@ -10,5 +10,6 @@ mod tests;
 
 pub use calls::{
     puzzles_check, puzzles_generate, puzzles_grade, puzzles_solve, puzzles_solve_each,
+    puzzles_version,
 };
 pub use output::TOO_SMALL;

@@ -1,5 +1,5 @@
 //! What a call puts into its caller's memory.
-ghost use Rattle.std.specs.Prelude.{◌≡◌, ◌<◌, ◌≤◌, IfErr, IfOk};
+ghost use Rattle.std.specs.Prelude.{◌≡◌, ◌≢◌, ◌<◌, ◌≤◌, IfErr, IfOk, drop};
 ghost use Rattle.commands.specs.Answers.{answer_with};
 ghost use Rattle.commands.specs.Replies.{answer_in};
 ghost use Rattle.puzzles_c.specs.Calls.{NeedsRoom, Tells};
@@ -20,6 +20,9 @@ pub fn put(text: &[u8], status: u8, output: &mut [u8], written: &mut usize) -> u
     ensures small { NeedsRoom (λ a. (status < NO_MEMORY) × (a ≡ answer_with text.now status))
         output.old written.new result }
     ensures same { NO_MEMORY ≤ result → output.new ≡ output.old }
+    ensures rest { drop written.new output.new ≡ drop written.new output.old }
+    ensures none { NO_MEMORY ≤ result → result ≤ BROKEN → written.new ≡ 0 }
+    ensures told { result ≡ BROKEN → status ≡ BROKEN }
 {
     *written = 0;
     if status >= NO_MEMORY {
@@ -42,6 +45,9 @@ pub fn put_reply(reply: &Result<Reply, AllocError>, output: &mut [u8], written: 
         (λ r. NeedsRoom (λ a. a ≡ answer_in r) output.old written.new result) }
     ensures unmade { IfErr reply.now (λ _. result ≡ NO_MEMORY) }
     ensures same { NO_MEMORY ≤ result → output.new ≡ output.old }
+    ensures rest { drop written.new output.new ≡ drop written.new output.old }
+    ensures none { NO_MEMORY ≤ result → result ≤ BROKEN → written.new ≡ 0 }
+    ensures whole { result ≢ BROKEN }
 {
     match reply {
         Ok(reply) => put(reply.text.as_bytes(), reply.status.code(), output, written),

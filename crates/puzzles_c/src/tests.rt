@@ -1,6 +1,7 @@
 //! Calls with ample memory. What they are to write follows from the rules and the formats by hand.
 use crate::{
     TOO_SMALL, puzzles_check, puzzles_generate, puzzles_grade, puzzles_solve, puzzles_solve_each,
+    puzzles_version,
 };
 use std::alloc::Global;
 use std::test::Fail;
@@ -75,6 +76,7 @@ fn makes(rt: HostRuntime) -> Result<(), Fail> {
         (LIGHT_UP, "2x2", 1, 100, "2x2:BBBB\n##\n##\n", 0),
         (SOLO, "2x2", 0, 0, "exhausted\n", 4),
         (TENTS, "3x3", 1, 100, "refused: size range\n", 2),
+        (PATTERN, "2x2", 1, 0, "2x2:///\n..\n..\n", 0),
         (PATTERN, "2x2", 1, 101, "refused: words\n", 2),
     ] {
         let (room, status) = made(rt.alloc(), game, size.as_bytes(), tries, black);
@@ -120,14 +122,14 @@ fn checks(rt: HostRuntime) -> Result<(), Fail> {
 
 #[test]
 fn grades(rt: HostRuntime) -> Result<(), Fail> {
-    for traced in [false, true] {
+    for traced in [0, 1, 2, 128, 255] {
         let (id, mut room) = ("2x2:2c", Room::new());
         let (output, written) = (&mut room.output, &mut room.written);
         let id = id.as_bytes();
         let status = puzzles_grade(rt.alloc(), LIGHT_UP, id, 0, traced, output, written);
         assert_eq!(rt; status, 0);
         assert_eq!(rt; room.text().get(..6), Some("local\n".as_bytes()));
-        assert_eq!(rt; room.written > 6, traced);
+        assert_eq!(rt; room.written > 6, traced != 0, "{traced}");
     }
     Ok(())
 }
@@ -150,4 +152,9 @@ fn too_small_an_output_stays(rt: HostRuntime) -> Result<(), Fail> {
         assert_eq!(rt; output.as_slice(), text.as_bytes(), "{length}");
     }
     Ok(())
+}
+
+#[test]
+fn the_version_is_told(rt: HostRuntime) {
+    assert_eq!(rt; puzzles_version(), 1);
 }

@@ -1,8 +1,10 @@
 """Writes files wholly, or leaves what was there."""
 import os
+from pathlib import Path
+from typing import Dict
 
 
-def write(path, content):
+def write(path: Path, content: bytes) -> None:
     """Writes a file. The fault of a full disk, which names no file, gets its name."""
     try:
         path.write_bytes(content)
@@ -11,7 +13,7 @@ def write(path, content):
         raise
 
 
-def replace(contents):
+def replace(contents: Dict[Path, bytes]) -> None:
     """Puts files in place, each a path and its bytes, once all are written."""
     new = {path: path.with_name(f"{path.name}.new") for path in contents}
     try:

@@ -80,6 +80,9 @@ class Made(Answer):
 
 
 Kind = TypeVar("Kind", bound=Answer)
+OF_SOLVE = (Verdict.ONE, Verdict.NONE, Verdict.SEVERAL, Verdict.GAVE_UP)
+RULE_SETS = (Grade.SINGLES, Grade.HOUSES, Grade.CROSSINGS, Grade.LINES, Grade.LOCAL)
+MADE = re.compile("[0-9]+x[0-9]+x?:.*")
 
 
 def refused(kind: Type[Kind], text: str) -> Kind:
@@ -93,6 +96,13 @@ def refusal(kind: Type[Kind], line: str) -> Optional[Kind]:
     return refused(kind, line[len("refused: "):]) if line.startswith("refused: ") else None
 
 
+def verdict(text: str, allowed: Sequence[Verdict]) -> Verdict:
+    """One of some verdicts. Raises ValueError."""
+    if text not in allowed:
+        raise ValueError(f"none of {', '.join(allowed)}: {text[:60]!r}")
+    return Verdict(text)
+
+
 def solved(lines: Sequence[str]) -> Solved:
     """Of `solve`, for one ID. Raises ValueError where the lines are no answer, as each of these does."""
     grids: List[List[str]] = [[]]
@@ -101,25 +111,25 @@ def solved(lines: Sequence[str]) -> Solved:
             grids[-1].append(line)
         else:
             grids.append([])
-    return refusal(Solved, lines[0]) or Solved(Verdict(lines[0]), grids=tuple(tuple(rows) for rows in grids if rows))
+    return refusal(Solved, lines[0]) or Solved(verdict(lines[0], OF_SOLVE), grids=tuple(tuple(rows) for rows in grids if rows))
 
 
 def checked(lines: Sequence[str]) -> Checked:
     """Of `check`."""
     word, _, broken = lines[0].partition(": ")
-    return refusal(Checked, lines[0]) or Checked(Verdict(word), broken=broken)
+    return refusal(Checked, lines[0]) or Checked(verdict(word, [Verdict.WRONG if broken else Verdict.CORRECT]), broken=broken)
 
 
 def graded(lines: Sequence[str]) -> Graded:
     """Of `grade`."""
     word, _, trials = lines[0].partition(" ")
-    if word in tuple(Grade):
+    if lines[0] in RULE_SETS or word == Grade.SEARCH and re.fullmatch("[0-9]+", trials):
         return Graded(Verdict.ONE, grade=Grade(word), trials=int(trials or 0), trace=tuple(lines[1:]))
-    return refusal(Graded, lines[0]) or Graded(Verdict(lines[0]), trace=tuple(lines[1:]))
+    return refusal(Graded, lines[0]) or Graded(verdict(lines[0], OF_SOLVE[1:]), trace=tuple(lines[1:]))
 
 
 def made(lines: Sequence[str]) -> Made:
     """Of `generate`."""
-    if ":" in lines[0] and not lines[0].startswith("refused"):
+    if MADE.fullmatch(lines[0]):
         return Made(Verdict.MADE, id=lines[0], grid=tuple(lines[1:]))
-    return refusal(Made, lines[0]) or Made(Verdict(lines[0]))
+    return refusal(Made, lines[0]) or Made(verdict(lines[0], [Verdict.EXHAUSTED]))

@@ -1,9 +1,12 @@
 """Where the program is, and one run of it."""
+import math
 import os
 import shutil
-import subprocess
 import sysconfig
+import time
 from typing import List, Optional, Sequence, Union
+
+from ._process import Process
 
 GAMES = ("solo", "pattern", "lightup", "tents")
 MOST_BYTES = 65_536  # of an ID
@@ -52,11 +55,14 @@ def is_word(word: bytes) -> bool:
 
 def run(words: Sequence[Union[str, bytes]], given: str, seconds: Optional[float]) -> List[str]:
     """The lines of one run. Raises `Late` and `NoAnswer`."""
+    end = math.inf if seconds is None else time.monotonic() + seconds
+    process = Process([program(), *words], has_group=False, is_quiet=True)
     try:
-        done = subprocess.run([program(), *words], input=given, capture_output=True, encoding="utf-8",
-                              errors="replace", timeout=seconds, check=False)
-    except subprocess.TimeoutExpired:
+        answer, status = process.answer(given.encode("utf-8", "replace"), lambda: end)
+    except TimeoutError:
         raise Late(f"no answer within {seconds:g} seconds") from None
-    if done.returncode not in STATUSES or not done.stdout:
-        raise NoAnswer(f"status {done.returncode}")
-    return done.stdout.splitlines()
+    finally:
+        process.end()
+    if status not in STATUSES or not answer:
+        raise NoAnswer(f"status {status}")
+    return answer.decode("utf-8", "replace").splitlines()

@@ -248,6 +248,10 @@ pub(crate) fn plain_trials<R: Searchable>(
     if !store.fits(rules) || !finds_two_as_the_walk(alloc, &mut store, rules, &whole)? {
         return Ok(None);
     }
+    if store.fits(rules) {
+        // so that a closing has trials to forget
+        store.solve(rules, 1);
+    }
     let closes = closes_as_plain(alloc, &mut store, rules, small)?;
     let counted = is_counted(alloc, rules, small, whole.verdict())?;
     Ok((closes && counted).then_some((whole.verdict(), whole.trials, whole.deepest)))

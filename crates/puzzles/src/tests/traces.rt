@@ -42,26 +42,28 @@ fn number_in(line: &str, kinds: &[&str], per_kind: usize, houses: usize) -> Opti
     }
 }
 
-/// The start board after visits of these houses, and the most visits one after another that struck nothing.
+/// The start board after visits of these houses, the most visits one after another that struck nothing, and how many there
+/// were when a cell had no value left.
 fn replayed<R: Rules>(
     alloc: Global,
     rules: &R,
     visits: &[usize],
-) -> Result<(Board, usize), AllocError>
+) -> Result<(Board, usize, usize), AllocError>
     ensures { IfOk result (λ told. IsBoardOf (R.system rules.now) told.0) }
 {
     let mut board = Board::new(alloc, rules.cells(), rules.values())?;
     let mut scratch = rules.scratch(alloc)?;
-    let (mut idle, mut most_idle) = (0usize, 0usize);
+    let (mut idle, mut most_idle, mut late) = (0usize, 0usize, 0usize);
     rules.start(&mut board);
     for house in visits {
         if *house < rules.houses() {
+            late = late.saturating_add(usize::from(board.has_empty_cell()));
             let struck = rules.visit(*house, &mut board, &mut scratch);
             idle = if struck { 0 } else { idle.saturating_add(1) };
             most_idle = most_idle.max(idle);
         }
     }
-    Ok((board, most_idle))
+    Ok((board, most_idle, late))
 }
 
 /// Whether both boards of a puzzle have the same values in the same cells.
@@ -78,16 +80,17 @@ fn are_same<R: Rules>(rules: &R, one: &Board, other: &Board) -> bool
 }
 
 /// Whether a closing by the rules leaves the board that these visits leave, and no house was visited twice without a strike
-/// between.
+/// between, or once a cell had no value left. A sweep is made to its end.
 fn is_closed_by<R: Searchable>(
     alloc: Global,
     rules: &R,
     visits: &[usize],
 ) -> Result<bool, AllocError> {
-    let (board, most_idle) = replayed(alloc, rules, visits)?;
+    let (board, most_idle, late) = replayed(alloc, rules, visits)?;
     let mut store = Store::new(alloc, rules)?;
     store.close(rules);
-    Ok(most_idle <= rules.houses() && are_same(rules, &board, store.board()))
+    let is_over = late == 0 || matches!(R::MODE, Mode::Sweep);
+    Ok(is_over && most_idle <= rules.houses() && are_same(rules, &board, store.board()))
 }
 
 /// Whether these visits, within the bound, close the board of a puzzle, and whether no visits do, as is told. Sweeps have the
@@ -246,8 +249,8 @@ fn sweeps_close<R: Searchable>(
     let visits = swept(alloc, rules, sweeps)?;
     let struck = visits.len().saturating_sub(rules.houses());
     let before = struck.saturating_sub(rules.houses());
-    let (early, _) = replayed(alloc, rules, &visits[..before.min(visits.len())])?;
-    let (late, _) = replayed(alloc, rules, &visits[..struck.min(visits.len())])?;
+    let (early, _, _) = replayed(alloc, rules, &visits[..before.min(visits.len())])?;
+    let (late, _, _) = replayed(alloc, rules, &visits[..struck.min(visits.len())])?;
     let needed = before == struck || !are_same(rules, &early, &late);
     Ok(needed && closes(alloc, rules, &visits, false)?)
 }

@@ -3,14 +3,14 @@
 ghost use Rattle.std.specs.Prelude.{◌≡◌, ℕ, ◌<◌, ◌≤◌, ◌&&◌, IfNone, IfSome, Some, false, length, replicate, true};
 ghost use Rattle.grid_core.specs.Candidates.{max_values};
 ghost use Rattle.solo_core.specs.Common.{has_bit as is_set, has_in};
-ghost use Rattle.solo_core.specs.PeeledHouses.{AreLone, AreMetOutside, AreSettledBut, IsPaired, IsRest, KeepsFillings, KeepsOthers, KeepsReaching};
+ghost use Rattle.solo_core.specs.PeeledHouses.{AreAllCounts, AreLone, AreMetOutside, AreSettledBut, AreSettledCells, IsPaired, IsPeeled, IsRest, KeepsFillings, KeepsOthers, KeepsReaching};
 ghost use Rattle.solo_core.specs.OpenHouses.{IsOpenHouse, ListsBits};
 
 use crate::visits::bits::{next_bit, others_below, with_bit_if};
 use crate::visits::graph::MANY;
 use crate::visits::mates::pair_rest;
 use crate::visits::open::OpenHouse;
-use crate::visits::peel::{are_whole, peel};
+use crate::visits::peel::{Counts, are_whole, peel};
 use crate::visits::reach::{close_under_steps, write_leads};
 use crate::visits::settle::{settle, strike_settled};
 use crate::visits::turning::lie_on_rounds;
@@ -49,6 +49,7 @@ pub(crate) fn keep_houses(values: u8, sets: &[u32], kept: &mut [u32], pairing: &
 
 /// Decides what is kept of the sets of a house in which these cells and values are open. The rest are the open cells. Says
 /// whether anything may be struck, or that no filling without repeat is left.
+#[inline(always)]
 pub(crate) fn keep_open(
     values: u8,
     house: OpenHouse,
@@ -73,6 +74,7 @@ pub(crate) fn keep_open(
 }
 
 /// The same of a house in which all cells but the rest are settled, and have these values.
+#[inline(always)]
 fn keep_settled(
     values: u8,
     settled: u32,
@@ -91,11 +93,40 @@ fn keep_settled(
     ensures room { pairing.new.room ≡ pairing.old.room }
 {
     let (counts, is_struck) = strike_settled(values, settled, rest, kept);
+    let (lone, is_struck) = peel_if_open(values, counts, settled, rest, kept, is_struck);
+    keep_unless_whole(values, lone, rest, kept, is_struck, pairing)
+}
+
+/// Goes on from cells that are settled to those that are alone once these have left, if there are any. Gives the values of all
+/// of them, and whether anything may be struck, or was before.
+#[inline(always)]
+fn peel_if_open(
+    values: u8,
+    counts: Counts,
+    settled: u32,
+    rest: &[u8],
+    kept: &mut [u32],
+    is_struck: bool,
+) -> (u32, bool)
+    requires few { values ≤ max_values }
+    requires square { length kept.old ≡ values }
+    requires counts { AreAllCounts kept.old counts.some counts.single counts.shared }
+    requires settled { AreSettledCells kept.old rest.now settled }
+    requires rest { IsRest values kept.old rest.now }
+    requires lone { AreLone values kept.old settled }
+    requires outside { AreMetOutside kept.old rest.now settled }
+    ensures peeled { IsPeeled values kept.old kept.new }
+    ensures lone { AreLone values kept.new result.0 }
+    ensures rest { IsRest values kept.new rest.now }
+    ensures outside { AreMetOutside kept.new rest.now result.0 }
+    ensures same { result.1 ≡ false → (kept.new ≡ kept.old) × (is_struck ≡ false) }
+    ensures others { KeepsOthers rest.now kept.old kept.new }
+{
     if counts.are_open() {
-        let lone = peel(values, counts, settled, rest, kept);
-        return keep_unless_whole(values, lone, rest, kept, true, pairing);
+        (peel(values, counts, settled, rest, kept), true)
+    } else {
+        (settled, is_struck)
     }
-    keep_unless_whole(values, settled, rest, kept, is_struck, pairing)
 }
 
 /// Decides what is kept of a house in which these values are those of cells that are alone. Says whether anything may be

@@ -5,9 +5,10 @@ import pathlib
 import re
 import shutil
 import tempfile
+from typing import Iterator
 
 from .._files import write
-from .._work import DISK, Fault
+from .._work import DISK, Fault, Program
 
 BROWSER = "chromium"
 DATE = re.compile(rb"(/(?:Creation|Mod)Date \(D:)\d{14}")
@@ -16,7 +17,7 @@ OPTIONS = ("--headless", "--disable-gpu", "--no-first-run", "--disable-extension
 
 
 @contextlib.contextmanager
-def temporary():
+def temporary() -> Iterator[str]:
     """A folder that goes away, also where a browser that was killed still writes into it."""
     folder = tempfile.mkdtemp()
     try:
@@ -25,7 +26,7 @@ def temporary():
         shutil.rmtree(folder, ignore_errors=True)
 
 
-def print_pdf(page, program):
+def print_pdf(page: str, program: Program) -> bytes:
     """The bytes of the PDF. The same page gives the same bytes; `program` runs the browser, and can stop it."""
     browser = shutil.which(BROWSER)
     if not browser:

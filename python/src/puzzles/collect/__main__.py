@@ -133,7 +133,7 @@ def take_grades(asked, table):
 
 
 def forget(asked, table):
-    _, refusals, puzzles = table.forget(asked.file, asked.game)
+    refusals, puzzles = table.forget(asked.file, asked.game)
     print(f"{puzzles:,} puzzles and {refusals:,} refusals are gone; puzzles that were met again stay")
 
 

@@ -11,6 +11,8 @@ CREATE TABLE IF NOT EXISTS puzzle (id TEXT, game TEXT, size TEXT, verdict TEXT, 
     times INTEGER, source TEXT, effort REAL, form TEXT, PRIMARY KEY (game, id)) WITHOUT ROWID;
 CREATE INDEX IF NOT EXISTS open ON puzzle (game, id) WHERE verdict IS NULL;
 CREATE TABLE IF NOT EXISTS source (name TEXT, game TEXT, lines INTEGER, digest TEXT, PRIMARY KEY (name, game));
+CREATE TABLE IF NOT EXISTS met (source TEXT, game TEXT, id TEXT, times INTEGER, line INTEGER,
+    PRIMARY KEY (source, game, id)) WITHOUT ROWID;
 CREATE TABLE IF NOT EXISTS refusal (source TEXT, line INTEGER, game TEXT, fault TEXT, PRIMARY KEY (source, line, game));
 """
 COLUMNS = {"effort": "REAL", "form": "TEXT"}  # that older tables haven't
@@ -30,7 +32,8 @@ NO_GRADES = ("none", "several", "gave up", "clock")
 
 
 class Table:
-    """`source` has how many lines of a file were taken, and a digest of them."""
+    """`source` has how many lines of a file were taken, and a digest of them; `met` how often a puzzle stands in it, and on which
+    line first."""
 
     def __init__(self, path):
         self.digest = hashlib.sha256()
@@ -99,6 +102,8 @@ class Table:
              "WHERE lines = ?", [(source, game, last, self.digest.hexdigest(), first - 1)]),
             ("INSERT INTO puzzle (id, game, size, clues, source, times) VALUES (?, ?, ?, ?, ?, 1) "
              "ON CONFLICT DO UPDATE SET times = times + 1", rows),
+            ("INSERT INTO met VALUES (?, ?, ?, 1, ?) ON CONFLICT DO UPDATE SET times = times + 1",
+             [(source, game, row[0], number) for number, (row, _) in numbered if row]),
             ("INSERT INTO refusal VALUES (?, ?, ?, ?)",
              [(source, number, game, fault) for number, (_, fault) in numbered if fault]), must=1)
 
@@ -109,17 +114,32 @@ class Table:
         return found and found[0]
 
     def forget(self, source, game):
-        """Takes a file back by its name: its refusals, and the puzzles that were met in it first and nowhere else."""
-        mark = f"{source}:"
-        counts = self.change(
-            ("DELETE FROM source WHERE name = ? AND game = ?", [(source, game)]),
-            ("DELETE FROM refusal WHERE source = ? AND game = ?", [(source, game)]),
-            ("DELETE FROM puzzle WHERE game = ? AND times = 1 AND substr(source, 1, ?) = ? "
-             "AND substr(source, ?) NOT GLOB '*[^0-9]*'",
-             [(game, len(mark), mark, len(mark) + 1)]))
-        if not counts[0]:
+        """Takes a file back by its name: its refusals, how often puzzles were met in it, and those that were met nowhere else."""
+        of, mine = (source, game), "FROM met WHERE source = ? AND game = ?"
+        self.can_forget(*of)
+        first = "game = ? AND substr(source, 1, ?) = ? AND substr(source, ?) NOT GLOB '*[^0-9]*'"
+        other = "SELECT met.source || ':' || line FROM met WHERE met.game = puzzle.game AND met.id = puzzle.id"
+        _, refusals, _, _, puzzles, _ = self.change(
+            ("DELETE FROM source WHERE name = ? AND game = ?", [of]),
+            ("DELETE FROM refusal WHERE source = ? AND game = ?", [of]),
+            (f"UPDATE puzzle SET times = times - (SELECT times {mine} AND id = puzzle.id) "
+             f"WHERE game = ? AND id IN (SELECT id {mine})", [(*of, game, *of)]),
+            (f"DELETE {mine}", [of]),
+            ("DELETE FROM puzzle WHERE game = ? AND times = 0", [(game,)]),
+            (f"UPDATE puzzle SET source = ({other} ORDER BY line LIMIT 1) WHERE {first}",
+             [(game, len(source) + 1, f"{source}:", len(source) + 2)]), must=1)
+        return refusals, puzzles
+
+    def can_forget(self, source, game):
+        """Whether it is known what was met in a file. Of one that an older version took it isn't."""
+        taken = self.base.execute("SELECT lines FROM source WHERE name = ? AND game = ?", (source, game)).fetchone()
+        if not taken:
             raise Fault(f"no file was taken by the name {source}: the table `source` has the names", REFUSED)
-        return counts
+        known, = self.base.execute("SELECT (SELECT coalesce(sum(times), 0) FROM met WHERE source = ?1 AND game = ?2) + "
+                                   "(SELECT count(*) FROM refusal WHERE source = ?1 AND game = ?2)", (source, game)).fetchone()
+        if known != taken[0]:
+            raise Fault(f"{source} was taken by an older version, which kept no list of its puzzles: so make the table anew",
+                        REFUSED)
 
     def count(self, game, wanted):
         """How many puzzles of a game are as a condition says."""

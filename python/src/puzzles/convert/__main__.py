@@ -13,42 +13,46 @@ Statuses: 0; 2 something was refused; 6 a fault of reading or writing.
 import argparse
 import json
 import sys
+from typing import BinaryIO, Callable, Dict, Iterator, Optional, Sequence, Tuple
 
 from .nonograms import read_non, read_pbn, write_non
 from .sudokus import read_text, write_text
 from .._work import REFUSED, Fault, begin
-from ..ids import GAMES, Refused, lines, read, written
+from ..ids import GAMES, Puzzle, Refused, lines, read, written
 
 MOST_BYTES = 500_000_000
-READERS = {"sudoku": ("solo", read_text), "non": ("pattern", read_non), "pbn": ("pattern", read_pbn)}
+Reader = Callable[[str], Iterator[Tuple[int, Optional[str], Optional[str]]]]
+READERS: Dict[str, Tuple[str, Reader]] = {
+    "sudoku": ("solo", read_text), "non": ("pattern", read_non), "pbn": ("pattern", read_pbn)}
 
 
-def write_json(puzzle):
+def write_json(puzzle: Puzzle) -> str:
     rows = [puzzle.cells[at:at + puzzle.width] for at in range(0, len(puzzle.cells), puzzle.width)]
     return json.dumps({"game": puzzle.game, "id": written(puzzle), "width": puzzle.width, "height": puzzle.height,
                        "block": puzzle.block, "diagonals": puzzle.is_crossed, "cells": rows,
                        "columns": puzzle.clues[:puzzle.width], "rows": puzzle.clues[puzzle.width:]})
 
 
-WRITERS = {"json": (GAMES, write_json), "sudoku": (("solo",), write_text), "non": (("pattern",), write_non)}
+WRITERS: Dict[str, Tuple[Sequence[str], Callable[[Puzzle], str]]] = {
+    "json": (GAMES, write_json), "sudoku": (("solo",), write_text), "non": (("pattern",), write_non)}
 
 
 class Told:
     """Tells what is refused, and keeps the status."""
 
-    def __init__(self):
+    def __init__(self) -> None:
         self.status = 0
 
-    def tell(self, name, number, fault):
+    def tell(self, name: str, number: int, fault: object) -> None:
         self.status = REFUSED
         print(f"{name}, puzzle {number}: {fault}", file=sys.stderr)
 
 
-def opened(name):
+def opened(name: str) -> BinaryIO:
     return sys.stdin.buffer if name == "-" else open(name, "rb")
 
 
-def take(asked, told):
+def take(asked: argparse.Namespace, told: Told) -> None:
     """Prints the IDs of files."""
     game, reader = READERS[asked.kind]
     for name in asked.files:
@@ -58,7 +62,7 @@ def take(asked, told):
             raise Fault(f"{name} has more than {MOST_BYTES:,} bytes", REFUSED)
         for number, text, fault in reader(content.decode("utf-8-sig", "replace")):
             try:
-                if not fault:
+                if text:
                     read(game, text)
                     print(text)
             except Refused as refused:
@@ -67,7 +71,7 @@ def take(asked, told):
                 told.tell(name, number, fault)
 
 
-def give(asked, told):
+def give(asked: argparse.Namespace, told: Told) -> None:
     """Prints IDs in another format."""
     games, writer = WRITERS[asked.kind]
     if asked.game not in games:
@@ -80,7 +84,7 @@ def give(asked, told):
                 told.tell(asked.file, number, fault)
 
 
-def main():
+def main() -> int:
     form = argparse.ArgumentParser(description=__doc__, formatter_class=argparse.RawDescriptionHelpFormatter)
     ways = form.add_subparsers(dest="way", required=True, metavar="from|to")
     way = ways.add_parser("from")
@@ -95,7 +99,7 @@ def main():
     return told.status
 
 
-def run():
+def run() -> None:
     begin(main)
 
 

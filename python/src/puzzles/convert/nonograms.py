@@ -1,19 +1,22 @@
 """Pattern in the formats of nonogram programs: .non of Steve Simpson's solver, and the XML of webpbn.com."""
 import re
 import xml.etree.ElementTree
+from typing import Dict, Iterator, List, Optional, Tuple
 
 from ..ids import Puzzle, written
 
 PARTS = {"rows": "height", "columns": "width"}
 CLUE = re.compile(r"[\d,.\s]*")
+Clues = List[List[int]]
+Answer = Tuple[Optional[str], Optional[str]]  # an ID, or what is wrong
 
 
-def id_of(columns, rows):
+def id_of(columns: Clues, rows: Clues) -> str:
     width, height = len(columns), len(rows)
     return written(Puzzle("pattern", f"{width}x{height}", width, height, cells=[""] * (width * height), clues=[*columns, *rows]))
 
 
-def read_non(text):
+def read_non(text: str) -> Iterator[Tuple[int, Optional[str], Optional[str]]]:
     """The number of each puzzle of a file, with its ID or with what is wrong. A second `width` begins another puzzle."""
     parts = re.split(r"(?m)^(?=width\b)", text, flags=re.I)
     if len(parts) == 1:
@@ -28,9 +31,10 @@ def read_non(text):
             yield number, id_of(found["columns"], found["rows"]), None
 
 
-def clues_of(part):
+def clues_of(part: str) -> Dict[str, Clues]:
     """The clues below the words `rows` and `columns`; an empty line or a 0 is an empty clue, but not behind the words."""
-    clues, into = {"rows": [], "columns": []}, None
+    clues: Dict[str, Clues] = {"rows": [], "columns": []}
+    into: Optional[Clues] = None
     for line in part.splitlines():
         word = line.strip().lower()
         if word in clues:
@@ -42,13 +46,13 @@ def clues_of(part):
     return clues
 
 
-def write_non(puzzle):
+def write_non(puzzle: Puzzle) -> str:
     clues = [",".join(map(str, clue)) or "0" for clue in puzzle.clues]
     return "\n".join([f"width {puzzle.width}", f"height {puzzle.height}", "", "rows", *clues[puzzle.width:], "", "columns",
                       *clues[:puzzle.width], ""])
 
 
-def read_pbn(text):
+def read_pbn(text: str) -> Iterator[Tuple[int, Optional[str], Optional[str]]]:
     """The same of the XML of webpbn.com."""
     if "<!ENTITY" in text:
         yield 1, None, "entities of its own"
@@ -64,10 +68,10 @@ def read_pbn(text):
         yield number, *pbn_answer(puzzle)
 
 
-def pbn_answer(puzzle):
+def pbn_answer(puzzle: xml.etree.ElementTree.Element) -> Answer:
     """The ID and None, or None and what is wrong."""
     try:
-        sides = {clues.get("type"): [[int(count.text) for count in line.iter("count")] for line in clues.iter("line")]
+        sides = {clues.get("type"): [[int(count.text or "") for count in line.iter("count")] for line in clues.iter("line")]
                  for clues in puzzle.iter("clues")}
     except (TypeError, ValueError):
         return None, "a count that is no number"

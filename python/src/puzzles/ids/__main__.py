@@ -15,7 +15,7 @@ from .._work import REFUSED, Fault, begin
 from . import GAMES, Refused, lines, read, read_grid, svg, written
 
 
-def answer_lines(game):
+def answer_lines(game: str) -> int:
     """Answers each line of the input."""
     status = 0
     for line in lines(sys.stdin.buffer):
@@ -27,7 +27,7 @@ def answer_lines(game):
     return status
 
 
-def main():
+def main() -> int:
     form = argparse.ArgumentParser(description=__doc__, formatter_class=argparse.RawDescriptionHelpFormatter)
     form.add_argument("--svg", action="store_true", help="draw the puzzle")
     form.add_argument("--grid", action="store_true", help="draw the grid that the input has, as the program prints it")
@@ -52,7 +52,7 @@ def main():
     return 0
 
 
-def run():
+def run() -> None:
     begin(main)
 
 

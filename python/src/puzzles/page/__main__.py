@@ -24,7 +24,7 @@ from pathlib import Path
 
 from .. import _places
 from .calls import NEEDED, Calls, Refused, fields
-from .program import Failed, Process, is_puzzles
+from .program import PROCESSES, Failed, is_puzzles
 
 CALLS = 8  # at a time
 PATIENCE = 0.5  # seconds that a call waits for its turn
@@ -221,7 +221,7 @@ def main():
     except KeyboardInterrupt:
         pass
     finally:
-        Process.stop_all()
+        PROCESSES.stop()
 
 
 def serve(program, words):

@@ -2,7 +2,10 @@
 import json
 import re
 import time
+from typing import Callable, Dict, List, Sequence
 
+from .. import answers
+from ..answers import Grade, Grid, Kind
 from .program import SECONDS, Failed, Workers, run
 
 BUDGET = 20_000  # trials of a search; nine of ten real puzzles of each kind need fewer
@@ -12,16 +15,14 @@ NEEDED = {"solve": {"game", "id"}, "check": {"game", "id", "grid"}, "grade": {"g
 MORE = {"generate": {"black", "budget"}}
 FIELDS = {"game": "solo|pattern|lightup|tents", "id": r"[^\x00-\x1f\x7f\ud800-\udfff]*", "grid": r"[0-9 #.O^T\n]{0,16384}",
           "size": "[0-9]{1,3}x[0-9]{1,3}x?", "seed": "[0-9]{1,20}", "black": "[0-9]{1,3}", "budget": "[0-9]{1,4}"}
-GRADES = "singles|houses|crossings|lines|local|search [0-9]+"
-FIRST = {"solve": "none|one|several|gave up", "check": "correct|wrong: .+", "grade": f"{GRADES}|none|several|gave up",
-         "generate": "exhausted|[0-9]+x[0-9]+x?:.*"}
+Parts = Dict[str, object]  # of a reply, in JSON
 
 
 class Refused(Exception):
     """A request isn't taken: a status, and why. What the program refuses is an answer, with the status 200."""
 
 
-def fields(call, body):
+def fields(call: str, body: bytes) -> Dict[str, str]:
     """The texts of a request: those that the call needs, each as it may be, and no others."""
     try:
         asked = json.loads(body.decode())
@@ -37,41 +38,49 @@ def fields(call, body):
     return asked
 
 
-def parted(call, answer):
-    """An answer of the program: its first line, and its grids. An answer of no known form is no answer."""
-    first, _, rest = answer.partition("\n")
-    if first.startswith("refused: "):
-        raise Refused(200, first.removeprefix("refused: "))
-    if not answer.endswith("\n") or not re.fullmatch(FIRST[call], first):
-        raise Failed("program")
-    return first, [grid.splitlines() for grid in rest.split("\n\n") if grid]
+def read(reader: Callable[[Sequence[str]], Kind], text: str) -> Kind:
+    """An answer of the program. One of no known form, or one that is cut short, is no answer."""
+    try:
+        if not text.endswith("\n"):
+            raise ValueError
+        answer = reader(text.splitlines())
+    except ValueError:
+        raise Failed("program") from None
+    if answer.refusal:
+        raise Refused(200, answer.refusal)
+    return answer
+
+
+def rows(grids: Sequence[Grid]) -> List[List[str]]:
+    return [list(grid) for grid in grids]
 
 
 class Calls:
     """What each call answers."""
 
-    def __init__(self, program):
+    def __init__(self, program: str):
         self.program = program
         self.workers = {game: Workers(program, game, BUDGET) for game in FIELDS["game"].split("|")}
 
-    def answer(self, call, asked):
-        return getattr(self, call)(end=time.monotonic() + SECONDS, **asked)
+    def answer(self, call: str, asked: Dict[str, str]) -> Parts:
+        reply: Parts = getattr(self, call)(end=time.monotonic() + SECONDS, **asked)
+        return reply
 
-    def solve(self, end, game, id):
-        verdict, grids = parted("solve", self.workers[game].solve(id, end))
-        return {"verdict": verdict, "grids": grids}
+    def solve(self, end: float, game: str, id: str) -> Parts:
+        found = read(answers.solved, self.workers[game].solve(id, end))
+        return {"verdict": found.verdict, "grids": rows(found.grids)}
 
-    def check(self, end, game, id, grid):
-        first, _ = parted("check", run(self.program, "check", game, "--", id, given=grid, end=end))
-        verdict, _, fault = first.partition(": ")
-        return {"verdict": verdict, "fault": fault} if fault else {"verdict": verdict}
+    def check(self, end: float, game: str, id: str, grid: str) -> Parts:
+        found = read(answers.checked, run(self.program, "check", game, "--", id, given=grid, end=end))
+        return {"verdict": found.verdict, **({"fault": found.broken} if found.broken else {})}
 
-    def grade(self, end, game, id):
-        first, _ = parted("grade", run(self.program, "grade", f"--budget={BUDGET}", game, "--", id, end=end))
-        return {"verdict": "one", "grade": first} if re.fullmatch(GRADES, first) else {"verdict": first}
+    def grade(self, end: float, game: str, id: str) -> Parts:
+        found = read(answers.graded, run(self.program, "grade", f"--budget={BUDGET}", game, "--", id, end=end))
+        grade = f"{found.grade} {found.trials}" if found.grade is Grade.SEARCH else found.grade
+        return {"verdict": found.verdict, **({"grade": grade} if grade else {})}
 
-    def generate(self, end, game, size, seed, black=None, budget=MAKING_BUDGET):
+    def generate(self, end: float, game: str, size: str, seed: str, black: str = "", budget: str = MAKING_BUDGET) -> Parts:
         more = [f"--seed={seed}", f"--budget={budget}", *([f"--black={black}"] if black else [])]
-        text, grids = parted("generate", run(self.program, "generate", *more, game, "--", size, end=end))
-        made = {"verdict": "made", "id": text, "grids": grids, "seed": seed}
-        return {"verdict": "exhausted", "grids": []} if text == "exhausted" else made
+        found = read(answers.made, run(self.program, "generate", *more, game, "--", size, end=end))
+        return {"verdict": found.verdict, "grids": rows([found.grid] if found.grid else []),
+                **({"id": found.id, "seed": seed} if found.id else {})}

@@ -1,173 +1,101 @@
-"""Runs the program `puzzles`. Each run ends by the clock, with all that it began, and only so much of its answer is read."""
+"""Runs the program `puzzles` for the page. Each run ends by the clock, with all that it began, and only so much of its answer is
+read."""
 import contextlib
+import functools
 import os
 import queue
-import selectors
-import signal
-import subprocess
-import threading
 import time
+from typing import Callable, Iterable, Iterator, List, Optional
+
+from .._process import Kept, Processes, Stopped
 
 SECONDS = 2.0  # of a run; one that takes longer is killed
 LONGEST = 1_000_000  # bytes of an answer: the largest board has 14,400 cells, and an answer two of them
-PIECE = 1 << 16  # bytes of one read or write
 IDS = 10_000  # of a worker; by itself it ends after 1,048,576 reads, and an ID takes it 17 or so
 WORKERS = min(4, os.cpu_count() or 1)  # of each game
 END = b"refused: no colon\n"  # what a worker answers to an empty line
+MOMENT = 1.0  # seconds for the end of a process that was killed: the page goes on without it
+PROCESSES = Processes()  # all that the server began
 
 
 class Failed(Exception):
     """There is no answer: `clock`, `busy`, or `program` (a signal, a status over 4, an answer of no known form)."""
 
 
-class Process:
-    """A process in a group of its own, so that what it starts ends with it."""
-
-    alive, guard = set(), threading.Lock()
-    is_over = False  # no process is begun once all are stopped
-
-    def __init__(self, words):
-        with self.guard:
-            if self.is_over:
-                raise Failed("program")
-            try:
-                self.child = subprocess.Popen(words, stdin=subprocess.PIPE, stdout=subprocess.PIPE, bufsize=0,
-                                              start_new_session=True)
-            except (OSError, ValueError):
-                raise Failed("program") from None
-            self.alive.add(self)
-        for pipe in (self.child.stdin, self.child.stdout):
-            os.set_blocking(pipe.fileno(), False)
-
-    def exchange(self, sent, end, is_last, is_whole=lambda got: False):
-        """Sends bytes, and closes the input if they are the last. Gives what comes until it is whole, or until its end."""
-        got, (source, sink) = bytearray(), (self.child.stdout, self.child.stdin)
-        with selectors.DefaultSelector() as pipes:
-            pipes.register(source, selectors.EVENT_READ)
-            pipes.register(sink, selectors.EVENT_WRITE)
-            while not is_whole(got):
-                left = end - time.monotonic()
-                ready = [key.fileobj for key, _ in pipes.select(left)] if left > 0 else []
-                if not ready:
-                    raise Failed("clock")
-                if sink in ready:
-                    with contextlib.suppress(BlockingIOError):
-                        sent = sent[self.write(sent):]
-                    if not sent:
-                        pipes.unregister(sink)
-                        if is_last:
-                            sink.close()
-                if source in ready:
-                    piece = os.read(source.fileno(), PIECE)
-                    got += piece
-                    if not piece:
-                        break
-                    if len(got) > LONGEST:
-                        raise Failed("program")
-        return bytes(got)
-
-    def write(self, sent):
-        try:
-            return os.write(self.child.stdin.fileno(), sent[:PIECE])
-        except BrokenPipeError:  # it answers without reading on
-            return len(sent)
-
-    def status(self, end):
-        try:
-            return self.child.wait(max(0, end - time.monotonic()))
-        except subprocess.TimeoutExpired:
-            raise Failed("clock") from None
-
-    def stop(self):
-        with contextlib.suppress(ProcessLookupError):
-            os.killpg(self.child.pid, signal.SIGKILL)
-        for pipe in (self.child.stdin, self.child.stdout):
-            with contextlib.suppress(OSError):
-                pipe.close()
-        with contextlib.suppress(subprocess.TimeoutExpired):
-            self.child.wait(1)
-        self.alive.discard(self)
-
-    @classmethod
-    def stop_all(cls):
-        """The end of the server: nothing that it began goes on."""
-        with cls.guard:
-            cls.is_over = True
-        for process in list(cls.alive):
-            with contextlib.suppress(ProcessLookupError):
-                os.killpg(process.child.pid, signal.SIGKILL)
-
-
-def run(*words, given="", end=None):
-    """What a process of its own answers."""
-    end = end or time.monotonic() + SECONDS
-    process = Process(words)
+@contextlib.contextmanager
+def told() -> Iterator[None]:
+    """Faults of a process as `Failed`."""
     try:
-        answer = process.exchange(given.encode(), end, is_last=True)
-        if process.status(end) not in range(5):
-            raise Failed("program")
-        return answer.decode()
-    except (OSError, UnicodeDecodeError):
+        yield
+    except TimeoutError:
+        raise Failed("clock") from None
+    except (OSError, ValueError, Stopped):
         raise Failed("program") from None
-    finally:
-        process.stop()
 
 
-def is_ended(answer):
+def whole(pieces: Iterable[bytes], is_whole: Callable[[bytes], bool] = lambda got: False) -> str:
+    """What comes, until it is whole or ends."""
+    got = b""
+    for piece in pieces:
+        got += piece
+        if len(got) > LONGEST:
+            raise Failed("program")
+        if is_whole(got):
+            break
+    return got.decode()
+
+
+def run(*words: str, given: str = "", end: Optional[float] = None) -> str:
+    """What a process of its own answers."""
+    clock = functools.partial(float, end or time.monotonic() + SECONDS)
+    with told():
+        process = PROCESSES.begin(words)
+        try:
+            answer = whole(process.pieces(given.encode(), clock, is_last=True))
+            if process.status(clock) not in range(5):
+                raise Failed("program")
+            return answer
+        finally:
+            PROCESSES.end(process, MOMENT)
+
+
+def is_ended(answer: bytes) -> bool:
     return answer.endswith(b"\n" + END)
 
 
 class Worker:
     """A `solve` of one game that is kept. It is fed an ID and an empty line, whose own answer marks the end."""
 
-    def __init__(self, words):
-        self.words, self.process, self.asked, self.file = words, None, 0, None
+    def __init__(self, words: List[str]):
+        self.kept = Kept(words, IDS, PROCESSES.begin, functools.partial(PROCESSES.end, seconds=MOMENT))
 
-    def stop(self):
-        if self.process:
-            self.process.stop()
-        self.process = None
+    def exchange(self, text: str, end: float) -> str:
+        return whole(self.kept.pieces(f"{text}\n\n".encode(), lambda: end), is_ended)
 
-    def begin(self):
-        """A new process, if there is none, if it has answered long enough, or if another program stands in its place."""
-        found = os.stat(self.words[0])
-        file = found.st_dev, found.st_ino, found.st_mtime_ns
-        if self.process and self.process.child.poll() is None and self.asked < IDS and file == self.file:
-            return
-        self.stop()
-        self.process, self.asked, self.file = Process(self.words), 0, file
-
-    def exchange(self, text, end):
-        self.begin()
-        self.asked += 1
-        return self.process.exchange(f"{text}\n\n".encode(), end, is_last=False, is_whole=is_ended)
-
-    def solve(self, text, end):
+    def solve(self, text: str, end: float) -> str:
         try:
-            answer = self.exchange(text, end)
-            if not answer and self.asked > 1:  # it had ended since the answer before
-                self.stop()
+            with told():
                 answer = self.exchange(text, end)
-            if not is_ended(answer):
-                raise Failed("program")
-            return answer.removesuffix(END).decode()
-        except (OSError, UnicodeDecodeError):
-            self.stop()
-            raise Failed("program") from None
+                if not answer and self.kept.left < IDS - 1:  # it had ended since the answer before
+                    self.kept.close()
+                    answer = self.exchange(text, end)
+                if not is_ended(answer.encode()):
+                    raise Failed("program")
+                return answer[:-len(END)]
         except Failed:
-            self.stop()
+            self.kept.close()
             raise
 
 
 class Workers:
     """Those of one game. A call takes the one that was free last, so that few are begun for a few visitors."""
 
-    def __init__(self, program, game, budget):
-        self.free = queue.LifoQueue()
+    def __init__(self, program: str, game: str, budget: int):
+        self.free: "queue.LifoQueue[Worker]" = queue.LifoQueue()
         for _ in range(WORKERS):
             self.free.put(Worker([program, "solve", game, "--budget", str(budget)]))
 
-    def solve(self, text, end):
+    def solve(self, text: str, end: float) -> str:
         try:
             worker = self.free.get(timeout=max(0, end - time.monotonic()))
         except queue.Empty:
@@ -178,7 +106,7 @@ class Workers:
             self.free.put(worker)
 
 
-def is_puzzles(program):
+def is_puzzles(program: str) -> bool:
     """Whether a program answers the README's example as `puzzles` does."""
     with contextlib.suppress(Failed):
         return run(program, "solve", "pattern", "--", "5x1:1/1//1/1/2.2", end=time.monotonic() + 5 * SECONDS) == "one\n##.##\n"

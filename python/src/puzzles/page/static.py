@@ -13,6 +13,7 @@ import shutil
 import sys
 import tempfile
 from pathlib import Path
+from typing import Dict
 
 from .. import _places
 
@@ -25,7 +26,7 @@ class Missing(Exception):
     """Something isn't there, or isn't what it should be."""
 
 
-def found(module):
+def found(module: Path) -> Dict[str, Path]:
     """The module and its loader."""
     if not module.is_file():
         raise Missing(f"{module}: no module (--module names it)")
@@ -38,15 +39,15 @@ def found(module):
     raise Missing(f"no loader: neither {module.with_name('puzzles.js')} nor {LOADER}")
 
 
-def sources(module):
+def sources(module: Path) -> Dict[str, Path]:
     """Each file's name in the folder, and where it comes from. Those of alone/ take the place of web/'s."""
-    files = {}
+    files: Dict[str, Path] = {}
     for top in (_places.page("web"), _places.page("alone")):
-        files |= {str(path.relative_to(top)): path for path in sorted(top.rglob("*")) if path.is_file()}
-    return files | found(module)
+        files.update({str(path.relative_to(top)): path for path in sorted(top.rglob("*")) if path.is_file()})
+    return {**files, **found(module)}
 
 
-def write(files, folder):
+def write(files: Dict[str, Path], folder: Path) -> None:
     """Copies the files, and tells the service worker their hashes."""
     hashes = {}
     for name, source in files.items():
@@ -61,7 +62,7 @@ def write(files, folder):
     service.write_text(text.replace(EMPTY, f'const VERSION = "{version}", FILES = {json.dumps(hashes, indent=1)};'))
 
 
-def replace(folder, files):
+def replace(folder: Path, files: Dict[str, Path]) -> None:
     """Writes all beside the folder, and then puts it in the folder's place."""
     is_ours = (folder / "service.js").is_file() and (folder / "puzzles.wasm").is_file()
     if folder.exists() and not (folder.is_dir() and (is_ours or not any(folder.iterdir()))):
@@ -76,7 +77,7 @@ def replace(folder, files):
         fresh.rename(folder)
 
 
-def main():
+def main() -> None:
     parser = argparse.ArgumentParser(description=__doc__, formatter_class=argparse.RawDescriptionHelpFormatter)
     parser.add_argument("folder", metavar="FOLDER", help="what is written")
     parser.add_argument("--module", metavar="FILE", default=MODULE, help="the module (default library/out/puzzles.wasm)")

@@ -13,7 +13,7 @@ returns-clause-whole c small =
     (search rules) c.new-input.ensures.ended r.gave in
     let empty : c.new-output.result.writer.items ≡ [] = search rules in
     let same : r.written ≡ c.into_inner.result.items = sym (ap (λ (v : Vec ℕ Global). v.items) c.into_inner.ensures ∙ r.took ∙ ap (λ l. l ++ r.written) empty) in
-    let status : status_in ended.result ≡ c.code.result = sym c.code.ensures in
+    let status : status_in ended.result ≡ c.code.result = sym (c.code.ensures.whole small) in
     let early : status_in ended.result < 5 = subst (λ (s : ℕ). s < 5) (sym status) small in
     let whole = r.leaves.whole early c.args.lines.now is in
     let at_code = subst (λ (s : ℕ). Allows (Some (solve c.args.task.game None c.args.task.budget)) c.args.lines.now (answer_with r.written s)) status whole in

@@ -2,16 +2,10 @@ use Rattle.solo_core.proofs.OpenLemmas.{none-over, some-over}
 use Rattle.solo_core.proofs.PeelLemmas.{decided_by_peeled, peeled-more}
 use Rattle.solo_core.proofs.visits.houses.keep_settled.Goals as goal
 
-pub returns-then-are_open-clause-decided : goal.returns-then-are_open-clause-decided
-returns-then-are_open-clause-decided c =
-    some-over c.keep_unless_whole.result (decided_by_peeled (peeled-more c.strike_settled-is_struck.ensures.peeled c.peel-lone.ensures.peeled)) c.keep_unless_whole.ensures.decided
-
-pub returns-then-are_open-clause-none : goal.returns-then-are_open-clause-none
-returns-then-are_open-clause-none c =
-    none-over c.keep_unless_whole.result (decided_by_peeled (peeled-more c.strike_settled-is_struck.ensures.peeled c.peel-lone.ensures.peeled)) c.keep_unless_whole.ensures.none
-
 pub returns-clause-decided : goal.returns-clause-decided
-returns-clause-decided c = some-over c.keep_unless_whole-2.result (decided_by_peeled c.strike_settled-is_struck.ensures.peeled) c.keep_unless_whole-2.ensures.decided
+returns-clause-decided c =
+    some-over c.keep_unless_whole.result (decided_by_peeled (peeled-more c.strike_settled-is_struck.ensures.peeled c.peel_if_open-lone.ensures.peeled)) c.keep_unless_whole.ensures.decided
 
 pub returns-clause-none : goal.returns-clause-none
-returns-clause-none c = none-over c.keep_unless_whole-2.result (decided_by_peeled c.strike_settled-is_struck.ensures.peeled) c.keep_unless_whole-2.ensures.none
+returns-clause-none c =
+    none-over c.keep_unless_whole.result (decided_by_peeled (peeled-more c.strike_settled-is_struck.ensures.peeled c.peel_if_open-lone.ensures.peeled)) c.keep_unless_whole.ensures.none
