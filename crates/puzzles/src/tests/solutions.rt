@@ -226,23 +226,17 @@ fn numbers(alloc: Global, text: &str) -> Result<Vec<u8>, Fail> {
     Ok(all)
 }
 
-/// So many cells from one on: `along` lie one after another, a step apart, and then come the next ones.
-#[derive(Clone, Copy)]
-struct Cells {
-    first: usize,
-    along: usize,
-    step: usize,
-    next: usize,
-}
+/// Cells from one on: so many lie one after another, a step apart, and then come the next ones.
+type Cells = (usize, usize, usize, usize);
 
 /// Whether n cells of a grid have each of the numbers from 1 to n.
-fn has_each(numbers: &[u8], n: usize, cells: Cells) -> bool {
-    let (mut seen, mut wanted, along) = (0u64, 0u64, cells.along.max(1));
+fn has_each(numbers: &[u8], n: usize, (first, along, step, next): Cells) -> bool {
+    let (mut seen, mut wanted, along) = (0u64, 0u64, along.max(1));
     for k in 0..n {
         wanted |= 2 << (k % 63);
-        let before = (k / along).saturating_mul(cells.next);
-        let offset = (k % along).saturating_mul(cells.step);
-        let place = cells.first.saturating_add(before).saturating_add(offset);
+        let before = (k / along).saturating_mul(next);
+        let offset = (k % along).saturating_mul(step);
+        let place = first.saturating_add(before).saturating_add(offset);
         match numbers.get(place) {
             Some(number) if *number >= 1 && *number < 64 => seen |= 1 << *number,
             _ => return false,
@@ -265,19 +259,7 @@ fn are_whole(numbers: &[u8], puzzle: &SoloPuzzle, line: usize) -> bool {
         (top.saturating_mul(n).saturating_add(left), r, 1, n),
     ]
     .iter()
-    .all(|(first, along, step, next)| {
-        let (first, along, step, next) = (*first, *along, *step, *next);
-        has_each(
-            numbers,
-            n,
-            Cells {
-                first,
-                along,
-                step,
-                next,
-            },
-        )
-    })
+    .all(|cells| has_each(numbers, n, *cells))
 }
 
 /// Whether each house of Solo has each number, and each given stands.
@@ -288,17 +270,11 @@ fn solves_solo(alloc: Global, puzzle: &SoloPuzzle, text: &str) -> Result<bool, F
         let given = puzzle.given(place);
         fine &= given == 0 || numbers.get(place) == Some(&given);
     }
-    let (along, next) = (n, 0);
-    for (first, step) in [
-        (0, n.saturating_add(1)),
-        (n.saturating_sub(1), n.saturating_sub(1)),
-    ] {
-        let cells = Cells {
-            first,
-            along,
-            step,
-            next,
-        };
+    let (falling, rising) = (
+        (0, n, n + 1, 0),
+        (n.saturating_sub(1), n, n.saturating_sub(1), 0),
+    );
+    for cells in [falling, rising] {
         fine &= !puzzle.x() || has_each(&numbers, n, cells);
     }
     Ok(fine && (0..n).all(|line| are_whole(&numbers, puzzle, line)))
