@@ -114,6 +114,8 @@ def find_forms(asked, table):
         parts = iter(lambda: list(itertools.islice(ids, STEP)), [])
         all_done(bar, (list(zip(part, pool.map(functools.partial(form, asked.game), part, 50))) for part in parts),
                  functools.partial(table.set, "form", asked.game))
+        pool.close()  # in order: to a process that has only just begun, the pool's end by a signal may be lost, and then it waits
+        pool.join()
     found = table.base.execute("SELECT count(*), coalesce(sum(count), 0) FROM doubles WHERE game = ?", (asked.game,)).fetchone()
     print("{:,} forms are of {:,} puzzles: the view `doubles` has them".format(*found))
 
