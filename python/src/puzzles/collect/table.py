@@ -71,9 +71,11 @@ class Table:
         changes `must` rows, if that is said."""
         try:
             self.base.execute("BEGIN IMMEDIATE")
-            counts = [self.base.executemany(statement, rows).rowcount for statement, rows in steps]
-            if must is not None and counts[0] != must:
-                raise Fault("another run takes this file at the same time: nothing is lost, so begin again behind it", DISK)
+            counts = []
+            for statement, rows in steps:
+                counts.append(self.base.executemany(statement, rows).rowcount)
+                if must is not None and counts[0] != must:
+                    raise Fault("another run takes this file at the same time: nothing is lost, so begin again behind it", DISK)
             self.base.execute("COMMIT")
             return counts
         finally:
