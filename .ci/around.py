@@ -38,6 +38,7 @@ SCRIPTS = {  # words behind python/run, or of Python itself, and what it needs: 
     "module": (["tests/library/wasm.py", "--engines=node", "--puzzles=300", "--built=BUILT", "PROGRAM"],
                ["cc", "node", "libpuzzles.so", "puzzles.wasm"]),
 }
+BY_HAND = ("library", "module")  # not seen to pass behind `rt ci` yet: begun by their names, `.ci/around.py STATUS LOG library`
 SECONDS, TESTS_SECONDS, BUILD_SECONDS = 1200, 4800, 7200  # of the processor; ten times what a part takes
 
 
@@ -235,13 +236,15 @@ class Gate:
 
         def begin(pool, names):
             return [pool.submit(self.script, name, *SCRIPTS[name]) for name in names if not only or name in only]
+        if not only:
+            self.skipped += [(name, "by hand") for name in BY_HAND]
         with concurrent.futures.ThreadPoolExecutor(CORES) as pool:
-            waits = [pool.submit(self.build)] if not only or {"library", "module"} & set(only) else []
-            others = begin(pool, [name for name in SCRIPTS if name not in ("library", "module")])
+            waits = [pool.submit(self.build)] if set(BY_HAND) & set(only) else []
+            others = begin(pool, [name for name in SCRIPTS if name not in BY_HAND])
             others += [pool.submit(self.node)] if not only or "node" in only else []
             for wait in waits:
                 wait.result()
-            for wait in [*others, *begin(pool, ["library", "module"])]:
+            for wait in [*others, *begin(pool, [name for name in BY_HAND if name in only])]:
                 wait.result()
         if not only or "pytest" in only:
             self.pytest()

@@ -6,6 +6,5 @@ mod grades;
 mod makings;
 mod rows;
 mod runs;
-mod solutions;
 mod traces;
 mod words;
