@@ -8,7 +8,7 @@ pub use Rattle.std.proofs.lemmas.Bool.{and_from, and_parts, cases_Bool, cases_eq
 pub use Rattle.std.proofs.lemmas.Bool.{not-false, not-true}
 pub use Rattle.std.proofs.lemmas.Grind.{common_steps}
 pub use Rattle.std.proofs.lemmas.List.{drop-drop, drop_all, get_or_past, length-map, length-take-le, take-append-drop, take_all}
-pub use Rattle.std.proofs.lemmas.List.Elements.{All-contains, All-nil, All-push}
+pub use Rattle.std.proofs.lemmas.List.Elements.{All-append, All-contains, All-nil}
 pub use Rattle.std.proofs.lemmas.Option.{none-some}
 pub use Rattle.std.proofs.lemmas.Result.{IfOk-weaker, on_err_weaker, on_ok_weaker}
 pub use Rattle.std.specs.List.{All, AllByRecursion, slice_get, slice_split}
