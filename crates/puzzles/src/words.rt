@@ -1,7 +1,7 @@
 //! What the words of a command line ask for.
 #![tactic(auto, using(crate::proofs::WordLemmas::word_laws))]
 
-ghost use Rattle.puzzles.specs.Requests.{number_of, number_or, asked_in, game_in, budget_in, solve_in, check_in, trace_in, grade_in, seed_in, tries_in, black_in, generate_in, asked_by_rows, asked_of, lent};
+ghost use Rattle.puzzles.specs.Requests.{number_in, number_or, asked_in, game_in, budget_in, solve_in, check_in, trace_in, grade_in, seed_in, tries_in, black_in, generate_in, asked_by_rows, asked_of, lent};
 ghost use Rattle.std.specs.Prelude.{◌≡◌, ◌≤◌, IfSome, IfOk, option_map, map, string_bytes};
 ghost use Rattle.clap.specs.Walk.{first_of, rows_of};
 ghost use Rattle.clap.specs.Simple.{subcommand_rows_of};
@@ -51,7 +51,7 @@ pub enum Request<'a> {
 
 /// A number in decimal digits, up to a limit.
 fn number(text: &str, most: u64) -> Option<u64>
-    ensures value { result ≡ number_of most text.now }
+    ensures value { result ≡ number_in most text.now }
     ensures within { IfSome result (λ n. n ≤ most) }
 {
     let bytes = text.as_bytes();
