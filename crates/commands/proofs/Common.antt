@@ -94,7 +94,7 @@ pub use Rattle.commands.specs.Texts.{Given, IsKeptText, text_limit}
 pub use Rattle.commands.specs.TracePieces.{BeginsTrace, KeptOrPut, PutInPieces, PutsTrace, TakesPieces, joined}
 pub use Rattle.commands.specs.Traces.{IsTrace, SaysClosing, visit_line, sweeps_text, visits_text}
 pub use Rattle.commands.specs.declared.answers.reply.Reply.{Reply}
-pub use Rattle.commands.specs.declared.grade.Grade.{Grade}
-pub use Rattle.commands.specs.declared.grade.Grade.TheVariants.{ByRules, BySearch}
-pub use Rattle.commands.specs.declared.grade.GradedRules.{GradedRules}
-pub use Rattle.commands.specs.declared.grade.GradedRules.TheVariants.{Crossings, Houses, Lines, Local, Singles}
+pub use Rattle.commands.specs.declared.grade.grades.Grade.{Grade}
+pub use Rattle.commands.specs.declared.grade.grades.Grade.TheVariants.{ByRules, BySearch}
+pub use Rattle.commands.specs.declared.grade.grades.GradedRules.{GradedRules}
+pub use Rattle.commands.specs.declared.grade.grades.GradedRules.TheVariants.{Crossings, Houses, Lines, Local, Singles}

@@ -10,7 +10,7 @@ ghost use Rattle.clap.specs.Matches.{found_of};
 use crate::command_line::puzzles_command;
 use clap::ArgMatches;
 use clap::error::ErrorKind;
-use commands::{GradeOptions, Percent, Recipe, Task, game_named, usual_black};
+use commands::{GradeOptions, MOST_PERCENT, Percent, Recipe, Task, game_named, usual_black};
 use gameid_core::Game;
 use maker_core::Limits;
 use std::alloc::{AllocError, Global};
@@ -20,9 +20,6 @@ pub const BUDGET: u64 = 100_000;
 
 /// The tries where the words name none.
 pub const TRIES: u32 = 1_000;
-
-/// The highest percentage of black cells.
-pub const MOST_BLACK: u64 = 100;
 
 /// What the words ask for.
 #[derive(Drop)]
@@ -137,7 +134,8 @@ fn tries_from<'a>(matches: &ArgMatches<'a>) -> Option<u32>
 fn percent_or(text: Option<&str>, otherwise: Percent) -> Option<Percent>
     ensures { option_map (λ p. p.value) result ≡ number_or otherwise.value 100 (lent text.entry) }
 {
-    let value = number_or(text, MOST_BLACK, u64::from(otherwise.value))? as u8;
+    let most = u64::from(MOST_PERCENT);
+    let value = number_or(text, most, u64::from(otherwise.value))? as u8;
     Some(Percent { value })
 }
 
