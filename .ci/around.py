@@ -25,12 +25,14 @@ CLOSING = re.compile(r"^(\d+) passed, (\d+) failed$", re.M)
 APT_SECONDS = 900
 CORES = os.cpu_count() or 1
 SHOWN = 4000  # letters of what a failed part wrote
-COMMIT, MYPY = "commit that git can read", "mypy 1.0"  # Debian 12's; another one finds other faults
-SCRIPTS = {  # words behind python/run, or of Python itself, and what it needs: programs, or files that were built
+COMMIT = "commit that git can read"
+MYPY, TSC = "mypy 1.0", "tsc 4.8"  # Debian 12's; others find other faults
+SCRIPTS = {  # words behind python/run, of Python or of a program, and what it needs: programs, or files that were built
     "promises": (["tests/tree/promises.py"], []),
     "documents": (["tests/tree/documents.py"], []),
     "types": (["tests/tree/search_types.py"], ["rt", COMMIT]),
     "mypy": (["-m", "mypy", "--cache-dir", os.devnull, "--config-file", "python/mypy.ini"], [MYPY]),
+    "tsc": (["tsc", "-p", "page", "--pretty", "false"], [TSC]),
     "growths": (["tests/program/refuse_growths.py", "PROGRAM"], ["cc"]),
     "memory": (["tests/program/search_memory.py", "PROGRAM"], ["cc"]),
     "library": (["tests/library/library.py", "--puzzles=300", "--calls=20000", "--built=BUILT", "PROGRAM"],
@@ -66,6 +68,14 @@ def is_program(name):
     """Whether a program can be run; a compiler of C finds the C library's headers too."""
     words = ["cc", "-E", "-include", "dlfcn.h", "-x", "c", os.devnull]
     return bool(shutil.which(name)) and (name != "cc" or not subprocess.run(words, capture_output=True, check=False).returncode)
+
+
+def tells(words, version):
+    """Whether a program is there in a version."""
+    try:
+        return subprocess.run(words, capture_output=True, text=True, check=False).stdout.startswith(version)
+    except OSError:
+        return False
 
 
 def lacking():
@@ -132,8 +142,9 @@ class Gate:
             words = ["git", "-C", str(TOP), "rev-parse", "--verify", "HEAD"]
             return bool(shutil.which("git")) and not subprocess.run(words, capture_output=True, check=False).returncode
         if probe == MYPY:
-            words = [self.python, "-m", "mypy", "--version"]
-            return subprocess.run(words, capture_output=True, text=True, check=False).stdout.startswith(MYPY)
+            return tells([self.python, "-m", "mypy", "--version"], MYPY)
+        if probe == TSC:
+            return tells(["tsc", "--version"], "Version 4.8")
         return is_program(probe) or (self.built / probe).is_file()
 
     def missing(self, name, probes):
@@ -165,11 +176,15 @@ class Gate:
     def show(self, name, wrote):
         print(f"--- the end of what {name} wrote ---\n{wrote[-SHOWN:]}\n---", flush=True)
 
+    def before(self, word):
+        """What stands before the words of a check."""
+        return [self.python] if word == "-m" else [self.python, "python/run"] if word.endswith(".py") else []
+
     def script(self, name, words, probes):
         """A check that is one test."""
         if self.missing(name, probes):
             return
-        status, wrote = self.run(name, SECONDS, [self.python, *([] if words[0] == "-m" else ["python/run"]), *words])
+        status, wrote = self.run(name, SECONDS, [*self.before(words[0]), *words])
         if status == 0:
             self.passed += 1
         elif status is not None:

@@ -70,7 +70,7 @@ export class Puzzles {
     return this.#answer("grade", game, () => [text(id), number(budget, 64), Number(Boolean(trace))]);
   }
 
-  generate(game, size, seed, { budget = 100000, tries = 1000, black } = {}) {
+  generate(game, size, seed, { budget = 100000, tries = 1000, black = undefined } = {}) {
     if (black !== undefined && !(game in BLACK)) return REFUSED;
     const share = black ?? BLACK[game] ?? 0;
     return this.#answer("generate", game,
@@ -104,6 +104,7 @@ export class Puzzles {
     return { status, text };
   }
 
+  /** @returns {[number, string]} */
   #once(call, words) {
     this.#exports.puzzles_clear();
     const passed = words.flatMap((word) => (word instanceof Uint8Array ? this.#put(word) : [word]));

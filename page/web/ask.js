@@ -20,6 +20,10 @@ export const ask = (name, fields, options) => answer(() => call(name, fields), o
 
 // What comes of some calls, in parts. It is undefined if there is no answer, which is said then, if something else was asked
 // since, or if it would be about a board that isn't there any more.
+/**
+ * @param {() => any} act
+ * @param {{ ofBoard?: boolean, refused?: (why: string) => any }} options
+ */
 export async function answer(act, { ofBoard = false, refused = () => say(words.said.refused, "bad") } = {}) {
   const mine = (asked += 1), { play } = table, version = play?.version;
   document.body.ariaBusy = "true";

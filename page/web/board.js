@@ -24,7 +24,10 @@ export class Board {
     const p = this.puzzle = puzzle, isTents = p.game === "tents";
     const beside = (clues, inside) => (isTents ? [...inside, ...clues] : [...clues, ...inside]);
     const row = (label, clues, inside) => element("div", { role: "row", "aria-label": label }, ...beside(clues, inside));
-    [this.cells, this.places, this.shown, this.pointed] = [[], new Map(), [], new Set()];
+    this.cells = [];
+    this.places = new Map();
+    this.shown = [];
+    this.pointed = new Set();
     this.standing = new Standing(p);
     this.columns = this.clues(p.columns, "columnheader", "column");
     this.rows = this.clues(p.rows, "rowheader", "row");

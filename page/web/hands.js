@@ -88,7 +88,7 @@ function touchStart(event) {
   holding = setTimeout(() => {
     choose(place);
     begin(place, false);
-    if (navigator.userActivation?.hasBeenActive) navigator.vibrate?.(15);
+    if (/** @type {any} */ (navigator).userActivation?.hasBeenActive) navigator.vibrate?.(15);
   }, HOLD);
 }
 

@@ -6,6 +6,7 @@ import { $, choose, chooseMore, table } from "./table.js";
 const SOON = 1000; // milliseconds between two digits of one number
 const BUTTONS = { h: "hint", c: "check", "?": "explain", "+": "larger", "-": "smaller" }, OF_SOLO = { n: "notes", k: "corners" };
 
+/** @type {any} */
 let typed = { text: "" };
 
 // A number from a key: a digit, or a letter for 10 and more. Two digits soon after one another are one number.

@@ -8,6 +8,7 @@ export const { default: words } = await import(`./languages/${language}.js`);
 
 // Fills in the page's own texts.
 export function fill() {
+  /** @type {(name: string) => Iterable<any>} */
   const all = (name) => document.querySelectorAll(`[data-${name}]`);
   document.documentElement.lang = language;
   for (const found of all("text")) found.textContent = words.page[found.dataset.text];

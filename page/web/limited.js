@@ -4,7 +4,11 @@ const SECONDS = 2, LOADING = 60;
 
 export class Limited {
   constructor(url) {
-    Object.assign(this, { url, waiting: new Map(), last: 0, turn: Promise.resolve() });
+    this.url = url;
+    this.waiting = new Map();
+    this.last = 0;
+    /** @type {Promise<any>} */
+    this.turn = Promise.resolve();
   }
 
   begin() {

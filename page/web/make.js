@@ -75,6 +75,7 @@ async function later(mine, made, act) {
   $("answer").append(button);
 }
 
+/** @type {() => any} */
 const wished = () => Object.fromEntries(["game", "size", "difficulty"].map((box) => [box, $(box).value]));
 const kindOf = ({ game, size, difficulty }) => `${game} ${size} ${difficulty}`;
 

@@ -8,7 +8,10 @@ import { start } from "./puzzle.js";
 
 export class Play {
   constructor(puzzle, id) {
-    [this.puzzle, this.id, this.name, this.version] = [puzzle, id, `${puzzle.game}/${id}`, 0];
+    this.puzzle = puzzle;
+    this.id = id;
+    this.name = `${puzzle.game}/${id}`;
+    this.version = 0;
     this.load();
     look(puzzle.game, id);
   }
@@ -18,10 +21,17 @@ export class Play {
     const found = kept(this.name, this.puzzle) || {};
     const { signs = start(this.puzzle), extras = {}, done = [], undone = [], promise = {} } = found;
     const { mark, seconds, hints, isShown, isSolved } = found;
-    Object.assign(this, { state: signs, extras, done, undone, promise });
-    Object.assign(this, { seconds: Number(seconds) || 0, hints: Number(hints) || 0 });
+    this.state = signs;
+    this.extras = extras;
+    this.done = done;
+    this.undone = undone;
+    /** @type {{ grade?: string, needs?: object, day?: string }} */
+    this.promise = promise;
+    this.seconds = Number(seconds) || 0;
+    this.hints = Number(hints) || 0;
     this.mark = Number.isInteger(mark) ? mark : undefined;
-    [this.isShown, this.isSolved] = [isShown === true, isSolved === true];
+    this.isShown = isShown === true;
+    this.isSolved = isSolved === true;
     this.version += 1;
   }
 

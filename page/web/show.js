@@ -13,6 +13,11 @@ import { $, lay, say, table } from "./table.js";
 import { zoom } from "./zoom.js";
 
 // `promise` is what was told of its difficulty. The address is a new entry of the history, if not it named the puzzle.
+/**
+ * @param {string} game
+ * @param {string} text
+ * @param {{ promise?: { grade?: string, needs?: object, day?: string }, isNamed?: boolean }} options
+ */
 export function show(game, text, { promise = {}, isNamed = !table.play } = {}) {
   const puzzle = read(game, text), address = `#${game}/${text}`;
   lay(puzzle, text);
@@ -63,6 +68,7 @@ export function tellWanted() {
 
 // Says why an ID was refused, and marks the place that is named.
 export function refuse(why, text = "", game = "solo") {
+  /** @type {{ said?: string, before?: string, marked?: string, behind?: string }} */
   const { said, before, marked, behind } = why ? refusal(why, text, game) : {};
   $("fault").replaceChildren(...(why ? [words.refused(said)] : []));
   if (marked !== undefined) $("fault").append(element("code", {}, before, element("mark", {}, marked), behind));

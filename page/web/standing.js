@@ -12,6 +12,7 @@ export class Standing {
       : [...lines, ...blocksOf(puzzle), ...diagonalsOf(puzzle)];
     this.housesOf = puzzle.fixed.map(() => []);
     this.houses.forEach((cells, house) => cells.forEach((cell) => this.housesOf[cell].push(house)));
+    /** @type {{ twice?: any, bulbs?: number, isMet?: boolean, isBroken?: boolean }[]} */
     this.told = this.houses.map(() => ({}));
   }
 

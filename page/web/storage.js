@@ -4,10 +4,11 @@ export function attempt(act) {
   try { return act(); } catch { return undefined; }
 }
 
-const PLACE = new URL(".", location).pathname;
+const PLACE = new URL(".", /** @type {any} */ (location)).pathname;
 export const named = (name) => (PLACE === "/" ? name : `${PLACE} ${name}`);
 
 export const get = (name) => attempt(() => localStorage.getItem(named(name)));
+/** @type {(name: string, text: string) => any} */
 export const set = (name, text) => localStorage.setItem(named(name), text); // throws if there is no room
 export const drop = (name) => localStorage.removeItem(named(name));
 

@@ -7,6 +7,7 @@ import { settings } from "./settings.js";
 
 const COLOURS = 6, LONG = 200; // and characters of a text that is set smaller on a phone
 export const MODES = ["notes", "corners", "colours"]; // what a number is, if it isn't one for the cell
+/** @type {(id: string) => any} */
 export const $ = (id) => document.getElementById(id);
 
 // `at` is the chosen cell, and `chosen` all that are, if they are several. `mode` is one of MODES, or nothing. `number` is one

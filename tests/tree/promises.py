@@ -1,29 +1,32 @@
 #!/usr/bin/env python3
 """Checks docs/PROMISES.md and the wrong bodies against the tree.
 
-usage: promises.py [--help]
+usage: promises.py [--help | --number]
 
-- Each wrong body named in a last column is a file crates/NAME/must-fail/BODY.edit, and each such file is named by one promise.
-  It lies in a crate in which a call of its row stands.
+- The tables of parts and promises have rows `| NUMBER | PROMISE | CONTRACT |`, numbered from 1 on through all of them. The last
+  table has a row `| NUMBER | DEFINITIONS | WRONG BODIES |` for each, in the same order. --number numbers them anew, where a row
+  was added by a number of its own, as 17a, in both.
+- Each wrong body named in the last column is a file crates/NAME/must-fail/BODY.edit, and each such file is named by one promise.
+  It lies in a crate in which a call of its promise stands.
 - A promise names at most three, or says in so many words that it is of laws, "with no body", or has "none of its own".
-- Each public call has its row: it is named in a second column. Public calls are the `pub fn`s that a library's lib.rt hands on,
-  by themselves, with their type or with their module; of the program those of PROGRAM in contracts.py. So are the members of the
-  traits that it hands on: a row names one at the trait, or at a type that has it.
+- Each public call has its promise: it is named in a column of contracts. Public calls are the `pub fn`s that a library's lib.rt
+  hands on, by themselves, with their type or with their module; of the program those of PROGRAM in contracts.py. So are the
+  members of the traits that it hands on: a promise names one at the trait, or at a type that has it.
 - Each wrong body has one line `# refused by: FUNCTION.CLAUSE`, and there is such a clause: see the next paragraph. The function
-  is a call of the wrong body's row, or one that such a call leads to.
-- What a second column names in code marks is there in some crate: calls, clauses, types and crates.
+  is a call of the wrong body's promise, or one that such a call leads to.
+- What a column of contracts names in code marks is there in some crate: calls, clauses, types and crates.
 - The column of definitions has words with their files, as "`IsClosing`, `IsDead` in [engine_core/ClosingList]", the groups parted
   by ";". It may say "the same" as the row above, or "none". Each word is defined in its file. It is named by the contract of a
-  call of the row, or in the file of another such word.
+  call of the promise, or in the file of another such word.
 - No contract of what is handed on names a word of a file of definitions that says of itself that none does.
 
 FUNCTION is `f`, `T::f`, or `T::f of U` for U's own f of the trait T. CLAUSE is the name of an `ensures` of it, or of the
 trait's f, or of a `requires` that the wrong body does not meet. FUNCTION alone stands for the `ensures` that has no name.
 `invariant` is the one of the function's type, and `from_gives` what an `impl` of `From` says that it gives.
 
-In a second column `T::f`, or `T::f.clause`, names the call f of T. Behind it a bare `g` names T's call g, or the function g.
+In a column of contracts `T::f`, or `T::f.clause`, names the call f of T. Behind it a bare `g` names T's call g, or the function g.
 "of" or "at" a type after a trait's call means that type's own. "the calls of `T`", or of `T`, `U` and `V`, are all calls of each.
-"the same" are the calls of the row above too. Families that a row names by a phrase are in FAMILIES.
+"the same" are the calls of the row above too. Families that a promise names by a phrase are in FAMILIES.
 Prints what is missing; the exit status is 1 where anything is.
 """
 import collections
@@ -39,7 +42,10 @@ NO_BODY = ("no body", "none of its own")
 GAMES = ["pattern", "solo", "lights", "tents"]
 REFUSED_BY = "# refused by: "
 
-# What a phrase of a second column names.
+PROMISES = TOP / "docs" / "PROMISES.md"
+HEADS = (["", "Promise", "Contract"], ["", "Part", "Contract"], ["Promise", "Definitions", "Wrong bodies refused"])
+
+# What a phrase of a column of contracts names.
 FAMILIES = {
     "four readers": [f"read_{game}" for game in GAMES],
     "four writers": [f"write_{game}" for game in GAMES],
@@ -108,7 +114,7 @@ def body_faults(code, table, named_by):
                 yield f"{where} named by {named_by[file.stem]} promises, and not by one"
             elif crate.name not in (there := {call.crate for call, _ in rows_of[file.stem].calls}):
                 row = rows_of[file.stem].number
-                yield f"{where} the calls of its row (line {row}) stand in {', '.join(sorted(there)) or 'no crate'}"
+                yield f"{where} the calls of its promise, {row}, stand in {', '.join(sorted(there)) or 'no crate'}"
             lines = [line for line in file.read_text().splitlines() if line.startswith(REFUSED_BY)]
             if len(lines) != 1:
                 yield f"{where} {len(lines)} lines '{REFUSED_BY}', and not one"
@@ -116,21 +122,69 @@ def body_faults(code, table, named_by):
                 if not is_clause(crate, code, line.removeprefix(REFUSED_BY)):
                     yield f"{where} no such clause: {line.removeprefix(REFUSED_BY)}"
                 elif file.stem in rows_of and not is_of_row(crate, rows_of[file.stem], line.removeprefix(REFUSED_BY)):
-                    yield f"{where} its row (line {rows_of[file.stem].number}) leads to no {line.removeprefix(REFUSED_BY)}"
+                    yield f"{where} its promise, {rows_of[file.stem].number}, leads to no {line.removeprefix(REFUSED_BY)}"
+
+
+def tables(text):
+    """The rows of the tables of promises, parts and what they rest on: the line's place, the head of the table, and the cells."""
+    head = None
+    for place, line in enumerate(text.splitlines()):
+        cells = [cell.strip() for cell in line.split("|")[1:-1]]
+        if cells in HEADS:
+            head = cells
+        elif len(cells) != 3:
+            head = None
+        elif head and not line.startswith("|---"):
+            yield place, head, cells
 
 
 def rows(text):
-    """The cells of each row of the tables of parts and promises, with the number of the line. A table without a column of wrong
-    bodies is of laws."""
-    columns = 0
-    for number, line in enumerate(text.splitlines(), 1):
-        cells = [cell.strip() for cell in line.split("|")[1:-1]]
-        if cells[:1] in (["Promise"], ["Part"]) and cells[1:3] == ["Contract", "Definitions"]:
-            columns, is_part = len(cells), cells[0] == "Part"
-        elif not columns or len(cells) != columns:
-            columns = 0
-        elif not line.startswith("|---"):
-            yield number, is_part, (cells + [NO_BODY[0]])[:4]
+    """The number of each promise, whether it is a part of the whole, and its cells: promise, contract, definitions, bodies."""
+    found = [*tables(text)]
+    rests = {cells[0]: cells[1:] for _, head, cells in found if head == HEADS[2]}
+    for _, head, (number, *cells) in found:
+        if head != HEADS[2]:
+            yield number, head == HEADS[1], [*cells, *rests.get(number, ["none", ""])]
+
+
+def numbers(text):
+    """The numbers of the promises, and those of the rows of what they rest on."""
+    found = [*tables(text)]
+    return [[cells[0] for _, head, cells in found if (head == HEADS[2]) == is_last] for is_last in (False, True)]
+
+
+def unpaired(text):
+    """What is wrong with the numbers, whatever their order."""
+    there, rests = numbers(text)
+    yield from (f"promise {number}: no row of what it rests on" for number in there if number not in rests)
+    yield from (f"definitions and wrong bodies of {number}: no such promise" for number in rests if number not in there)
+    yield from (f"promise {number} stands twice" for of in (there, rests) for number in sorted(set(of)) if of.count(number) > 1)
+
+
+def number_faults(text):
+    """What is wrong with the numbers of promises, and of what they rest on."""
+    there, rests = numbers(text)
+    yield from unpaired(text)
+    if any(of != [str(number) for number in range(1, len(of) + 1)] for of in (there, rests)):
+        yield "the promises, or the rows of what they rest on, aren't numbered in order: --number does it"
+
+
+def numbered(text):
+    """The text with its promises numbered anew, and the rows of what they rest on in the same order."""
+    lines, found = text.splitlines(), [*tables(text)]
+    there = [cells[0] for _, head, cells in found if head != HEADS[2]]
+    new = {number: str(at) for at, number in enumerate(there, 1)}
+    rests = sorted((place for place, head, cells in found if head == HEADS[2]), key=lambda place: there.index(cell(lines[place])))
+    of_rests = iter([lines[place] for place in rests])
+    for place, head, cells in found:
+        line = next(of_rests) if head == HEADS[2] else lines[place]
+        lines[place] = line.replace(f"| {cell(line)} |", f"| {new[cell(line)]} |", 1)
+    return "\n".join(lines) + "\n"
+
+
+def cell(line):
+    """The first cell of a row."""
+    return line.split("|")[1].strip()
 
 
 def families(code, segment):
@@ -149,7 +203,7 @@ def own_calls(calls, kinds):
 
 
 def resolved(code, cell):
-    """The calls that a second column names, each with a clause or nothing, and what it names that isn't there."""
+    """The calls that a column of contracts names, each with a clause or nothing, and what it names that isn't there."""
     found, missing, owner = [], [], None
     for segment in cell.split(";"):
         calls, others = [(call, None) for call in families(code, segment)], []
@@ -168,7 +222,7 @@ def resolved(code, cell):
 
 
 class Row:
-    """A promise: the number of its line, its calls, and the wrong bodies that it names."""
+    """A promise: its number, its calls, and the wrong bodies that it names."""
 
     def __init__(self, code, number, is_part, cells, before):
         self.number, self.is_part, (self.promise, self.contract, self.definitions, self.wrong) = number, is_part, cells
@@ -184,21 +238,21 @@ def row_faults(table):
     """What is wrong with the columns of calls and of wrong bodies."""
     bodies = {file.stem for file in TOP.glob("crates/*/must-fail/*.edit")}
     for row in table:
-        yield from (f"line {row.number}: no such call, clause or type: {span}" for span in row.missing)
-        yield from (f"line {row.number}: no wrong body of this name: {name}" for name in row.bodies if name not in bodies)
+        yield from (f"promise {row.number}: no such call, clause or type: {span}" for span in row.missing)
+        yield from (f"promise {row.number}: no wrong body of this name: {name}" for name in row.bodies if name not in bodies)
         if len(row.bodies) > MOST_BODIES:
-            yield f"line {row.number}: {len(row.bodies)} wrong bodies, more than {MOST_BODIES}: {row.promise}"
+            yield f"promise {row.number}: {len(row.bodies)} wrong bodies, more than {MOST_BODIES}: {row.promise}"
         if not row.is_part and not row.bodies and not any(words in row.wrong for words in NO_BODY):
-            yield f"line {row.number}: no wrong body, and no word of why: {row.promise}"
+            yield f"promise {row.number}: no wrong body, and no word of why: {row.promise}"
 
 
 def call_faults(table):
-    """The public calls that no second column names."""
+    """The public calls that no column of contracts names."""
     named = [call for row in table if not row.is_part for call, _ in row.calls]
     told = {(call.crate, call.kind, call.name) for call in named}
     members = {(call.trait, call.name) for call in named}
     for crate in crates():
-        yield from (f"{crate.name}: no row for {call.told()}" for call in public_calls(crate)
+        yield from (f"{crate.name}: no promise for {call.told()}" for call in public_calls(crate)
                     if ((call.trait, call.name) not in members if is_member(call)
                         else (call.crate, call.kind, call.name) not in told))
 
@@ -228,16 +282,16 @@ def definition_faults(code, text, table):
     for row in table:
         words = groups(row.definitions)
         if words is None:
-            yield f"line {row.number}: definitions that aren't in their form: {row.definitions}"
+            yield f"promise {row.number}: definitions that aren't in their form: {row.definitions}"
             continue
         for word, file in words:
             if links.get(f"{file.parts[-3]}/{file.stem}") != str(file.relative_to(TOP)):
-                yield f"line {row.number}: no link to the file of {word}"
+                yield f"promise {row.number}: no link to the file of {word}"
             elif not file.exists() or word not in defined(file.read_text()):
-                yield f"line {row.number}: no {word} in {file.relative_to(TOP)}"
+                yield f"promise {row.number}: no {word} in {file.relative_to(TOP)}"
         there = [(word, file) for word, file in words if file.exists()]
         texts = [said for call, clause in row.calls for said in clause_texts(code, call, clause)]
-        yield from (f"line {row.number}: {word} is named by no call of the row and no other word"
+        yield from (f"promise {row.number}: {word} is named by no call of it and no other word"
                     for word in unreached(there, texts))
 
 
@@ -253,15 +307,17 @@ def main(words):
     if words == ["--help"]:
         print(__doc__)
         return 0
-    if words:
-        print(f"promises.py: takes no words but --help: {' '.join(words)}", file=sys.stderr)
+    if words not in ([], ["--number"]):
+        print(f"promises.py: takes no words but --help or --number: {' '.join(words)}", file=sys.stderr)
         return 2
     try:
-        text, code, table = (TOP / "docs" / "PROMISES.md").read_text(), Code(), []
+        if words and not [*unpaired(PROMISES.read_text())]:
+            PROMISES.write_text(numbered(PROMISES.read_text()))
+        text, code, table = PROMISES.read_text(), Code(), []
         for number, is_part, cells in rows(text):
             table.append(Row(code, number, is_part, cells, table[-1] if table else None))
         named_by = collections.Counter(body for row in table for body in row.bodies)
-        faults = [*row_faults(table), *body_faults(code, table, named_by), *call_faults(table),
+        faults = [*number_faults(text), *row_faults(table), *body_faults(code, table, named_by), *call_faults(table),
                   *definition_faults(code, text, table), *handed_faults()]
     except (OSError, UnicodeDecodeError) as fault:
         print(f"promises.py: can't read the tree: {fault}", file=sys.stderr)

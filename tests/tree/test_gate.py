@@ -31,6 +31,16 @@ def test_a_part_that_ends(tmp_path, line, wanted):
     assert part(tmp_path, 600, "sh", "-c", line) == (wanted, [])
 
 
+def test_a_part_that_lacks_its_program(tmp_path):
+    """It is skipped by name, and counts."""
+    log = tmp_path / "log"
+    log.write_text("187 passed, 0 failed\n")
+    done = subprocess.run([sys.executable, CI / "around.py", "0", log, "tsc"], text=True, stdout=subprocess.PIPE, check=False,
+                          timeout=SECONDS, env={**os.environ, "CI": "", "TMPDIR": str(tmp_path), "PATH": str(tmp_path)})
+    *_, skipped, last = done.stdout.splitlines()
+    assert (skipped, last) == ("gate: skipped, no tsc 4.8: 1: tsc", "187 passed, 0 failed, 1 skipped")
+
+
 @pytest.mark.parametrize("status, said, wanted", [
     (0, "187 passed, 0 failed", (0, "187 passed, 0 failed, 0 skipped")),
     (1, "186 passed, 1 failed", (1, "186 passed, 1 failed, 1 skipped")),

@@ -66,7 +66,10 @@ function told(rules, { chain, struck, choices }) {
 
 class Links {
   constructor(rules, cans) {
-    Object.assign(this, { rules, cans, weakOf: new Map(), strongOf: new Map() });
+    this.rules = rules;
+    this.cans = cans;
+    this.weakOf = new Map();
+    this.strongOf = new Map();
   }
 
   // The candidates that don't hold if this one does.

@@ -11,7 +11,7 @@ export class Counts {
   constructor(puzzle) {
     this.puzzle = puzzle;
     this.sign = GAMES[puzzle.game].sign;
-    this.houses = this.found().filter(({ cells }) => cells.length);
+    this.houses = /** @type {any} */ (this).found().filter(({ cells }) => cells.length);
     this.housesOf = puzzle.fixed.map(() => []);
     for (const house of this.houses) for (const cell of house.cells) this.housesOf[cell].push(house);
   }
@@ -33,12 +33,12 @@ export class Counts {
   // Steps with the cells that they decide and their rank: those of one house, and else those that look further.
   deciding(cans, blank) {
     const single = this.single(cans), isAny = single.some(([, cells]) => cells.some((cell) => blank.has(cell)));
-    return isAny ? single : this.beyond(cans);
+    return isAny ? single : /** @type {any} */ (this).beyond(cans);
   }
 
   simple(cans) { return this.single(cans).map(([one]) => one); }
 
-  harder(cans) { return this.beyond(cans).map(([one]) => one); }
+  harder(cans) { return /** @type {any} */ (this).beyond(cans).map(([one]) => one); }
 
   // First those that fill cells, then those that leave cells empty.
   single(cans) {

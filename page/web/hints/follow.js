@@ -3,7 +3,11 @@ import { candidate } from "./steps.js";
 
 export class Follow {
   constructor(rules, cans) {
-    Object.assign(this, { rules, now: cans.map((can) => new Set(can)), fresh: [], placed: new Map(), gone: new Map() });
+    this.rules = rules;
+    this.now = cans.map((can) => new Set(can));
+    this.fresh = [];
+    this.placed = new Map();
+    this.gone = new Map();
   }
 
   // The cell or house that breaks, after how many cells, and those of the cells that lead there, each with its reason. Nothing

@@ -21,7 +21,7 @@ export const valueIn = (puzzle, rules, sign) => (puzzle.block ? Number(sign) : N
 // thinks it can have, and `last` is the cell that was changed last. `kind` is "wrong", "done", "step", "trial" or "guess";
 // `cells` has the cells that it is about, `values` what stands there; `steps` what leads there, one after another, each with the
 // cells that it looks at, the candidates that it strikes, and the cells that bar the others; `look` what a player looks at first.
-export function hint(puzzle, signs, solution, { notes = [], last } = {}) {
+export function hint(puzzle, signs, solution, { notes = [], last = undefined } = {}) {
   const rules = rulesOf(puzzle), value = (sign) => valueIn(puzzle, rules, sign), values = solution.map(value);
   const wrong = signs.flatMap((sign, cell) => (sign !== "." && value(sign) !== values[cell] ? cell : []));
   if (wrong.length) return { kind: "wrong", cells: wrong.slice(0, 1), more: wrong.length - 1, steps: [] };

@@ -35,6 +35,7 @@ export class Tents extends Counts {
 
   // A line, and what is alike in each way to put its tents, in the lines beside it too.
   beyond(cans) {
+    /** @type {any[]} */
     const found = [];
     for (const { name, cells, count } of this.lines) {
       const ways = cells.some((cell) => cans[cell].size === 2) ? placed(cells.map((cell) => cans[cell]), count) : [];

@@ -14,11 +14,13 @@ It needs Debian's chromium and fonts-dejavu-core.
 Statuses: 0; 2 words refused; 6 a fault of reading or writing; 7 a program isn't there or fails, or too few puzzles; 130 stopped.
 """
 import argparse
+import dataclasses
 import html
 import pathlib
+from typing import Callable, Dict, List, Mapping, Optional, Sequence, Tuple
 
 from . import pages
-from .chapters import chapter
+from .chapters import Chapter, Made, chapter
 from .journal import Journal
 from .layout import PAPERS, Sheet, check
 from .._files import replace
@@ -27,7 +29,7 @@ from .making import Maker, fill
 from .outputs import Entry, check_table, drawings, last_seed, table
 from .pdf import print_pdf
 from ..ids import empty, read
-from .texts import load
+from .texts import Texts, load
 
 DEFAULT = ["solo:3x3:easy:18", "solo:3x3:medium:12", "solo:3x3:hard:12", "pattern:10x10:easy:8", "pattern:15x15:long:6",
            "pattern:20x20:long:4", "lightup:7x7:easy:6", "lightup:10x10:medium:6", "lightup:10x10:hard:6", "tents:8x8:easy:6",
@@ -35,7 +37,26 @@ DEFAULT = ["solo:3x3:easy:18", "solo:3x3:medium:12", "solo:3x3:hard:12", "patter
 MOST_GUTTER, MOST_TITLE, MOST_MULTIPLE, MOST_FRONT = 30, 200, 64, 20_000_000
 
 
-def options():
+@dataclasses.dataclass(frozen=True)
+class Asked:
+    """What the words of the command line ask for."""
+    book: pathlib.Path
+    chapters: List[Chapter]
+    games: List[str]
+    title: str
+    texts: Texts
+    front: str
+    sheet: Sheet
+    begins_right: bool
+    multiple: int
+    svg: Optional[pathlib.Path]
+    seed: int
+    is_symmetric: bool
+    program: str
+    seconds: float
+
+
+def options() -> argparse.ArgumentParser:
     form = argparse.ArgumentParser(description=__doc__, formatter_class=argparse.RawDescriptionHelpFormatter)
     form.add_argument("--title", help="on the first page (Puzzles)")
     form.add_argument("--paper", choices=PAPERS, default="A4", help="the size to which it is cut (A4); 6x9 and 8x10 are inches")
@@ -58,27 +79,26 @@ def options():
     return form
 
 
-def words():
+def words() -> Asked:
     form = options()
-    asked = form.parse_intermixed_args()
-    asked.seed = max([asked.seed, *(last_seed(path) + 1 for path in asked.after)])
-    if not 0 <= asked.seed < 2**63 or not 0 < asked.seconds <= 86400 or asked.book.suffix != ".pdf":
+    given = form.parse_intermixed_args()
+    seed: int = max([given.seed, *(last_seed(path) + 1 for path in given.after)])
+    if not 0 <= seed < 2**63 or not 0 < given.seconds <= 86400 or given.book.suffix != ".pdf":
         form.error("a seed is 0 to 9223372036854775807, a clock at most 86400 seconds, and the book's name ends in .pdf")
-    if not 0 <= asked.gutter <= MOST_GUTTER or not 1 <= asked.multiple <= MOST_MULTIPLE:
+    if not 0 <= given.gutter <= MOST_GUTTER or not 1 <= given.multiple <= MOST_MULTIPLE:
         form.error(f"a gutter has at most {MOST_GUTTER} mm, and a multiple is 1 to {MOST_MULTIPLE}")
-    asked.texts = load(asked.words)
-    asked.title = html.unescape(asked.texts["title"]) if asked.title is None else asked.title
-    if len(asked.title) > MOST_TITLE:
+    texts = load(given.words)
+    title: str = html.unescape(texts["title"]) if given.title is None else given.title
+    if len(title) > MOST_TITLE:
         form.error(f"a title has at most {MOST_TITLE} letters")
-    chapters = asked.chapters or [*map(chapter, DEFAULT)]
-    asked.games = list(dict.fromkeys(one.game for one in chapters))
-    asked.chapters = sorted(chapters, key=lambda one: asked.games.index(one.game))
-    asked.front = read_front(asked.front) if asked.front else ""
-    asked.sheet = Sheet(PAPERS[asked.paper], asked.gutter, asked.bare, asked.large)
-    return asked
+    chapters: List[Chapter] = given.chapters or [*map(chapter, DEFAULT)]
+    games = list(dict.fromkeys(one.game for one in chapters))
+    return Asked(given.book, sorted(chapters, key=lambda one: games.index(one.game)), games, title, texts,
+                 read_front(given.front) if given.front else "", Sheet(PAPERS[given.paper], given.gutter, given.bare, given.large),
+                 given.right, given.multiple, given.svg, seed, given.symmetric, given.program, given.seconds)
 
 
-def read_front(path):
+def read_front(path: pathlib.Path) -> str:
     with open(path, "rb") as file:
         content = file.read(MOST_FRONT + 1)
     try:
@@ -89,42 +109,45 @@ def read_front(path):
         raise Fault(f"{path} is no text in UTF-8 of at most {MOST_FRONT:,} bytes", REFUSED) from None
 
 
-def entries_of(chapters, found):
+def entries_of(chapters: Sequence[Chapter], found: Sequence[Sequence[Made]]) -> List[Entry]:
     made = [(asked, one) for asked, some in zip(chapters, found) for one in some]
     return [Entry(number, asked, one, *one.puzzle(asked.game)) for number, (asked, one) in enumerate(made, 1)]
 
 
-def build(asked, entries, solve, solved_on=None, contents=()):
+def build(asked: Asked, entries: Sequence[Entry], solve: Callable[[str, str], List[str]],
+          solved_on: Optional[Mapping[int, int]] = None,
+          contents: Sequence[pages.Listed] = ()) -> Tuple[pages.Book, Dict[int, int], List[pages.Listed]]:
     """The book; its contents and the pages of solutions are known after a first time."""
-    book, listed, texts = pages.Book(asked.title, asked.sheet, asked.texts), [], asked.texts
+    book, texts = pages.Book(asked.title, asked.sheet, asked.texts), asked.texts
+    listed: List[pages.Listed] = []
     pages.add_front(book, len(entries), asked.front)
     pages.add_contents(book, contents, len(asked.games) + len(asked.chapters) + 1)
     for game in asked.games:
-        if asked.right:
+        if asked.begins_right:
             book.begin_right()
-        listed.append((pages.how(texts, game), "", pages.add_rules(book, game, solve)))
+        listed.append(pages.Listed(pages.how(texts, game), "", pages.add_rules(book, game, solve)))
         for one in asked.chapters:
             some = [entry for entry in entries if entry.chapter is one]
             if one.game == game:
                 pages.add_chapter(book, one, some, solved_on or {})
                 numbers = pages.numbered(texts, [entry.number for entry in some])
-                listed.append((pages.heading(book, one, some[0].puzzle), numbers, some[0].page))
-    if asked.right:
+                listed.append(pages.Listed(pages.heading(book, one, some[0].puzzle), numbers, some[0].page))
+    if asked.begins_right:
         book.begin_right()
-    listed.append((texts["solutions"], "", len(book.pages) + 1))
-    solved_on = pages.add_solutions(book, entries)
+    listed.append(pages.Listed(texts["solutions"], "", len(book.pages) + 1))
+    found = pages.add_solutions(book, entries)
     book.fill(asked.multiple)
-    return book, solved_on, listed
+    return book, found, listed
 
 
-def check_sizes(asked):
+def check_sizes(asked: Asked) -> None:
     """Tells before anything is made of what doesn't fit the paper."""
     for one in asked.chapters:
         for puzzle in [read(one.game, text) for text in one.ids] or [empty(one.game, one.size)]:
             check(asked.sheet, puzzle)
 
 
-def main():
+def main() -> int:
     asked = words()
     check_sizes(asked)
     beside = asked.book.with_suffix(".csv")
@@ -132,12 +155,12 @@ def main():
     if asked.svg:
         asked.svg.mkdir(exist_ok=True)
     program = Program(asked.program, asked.seconds)
-    journal = Journal(asked.book.with_name(f"{asked.book.name}.part"), program.path, {"symmetric": asked.symmetric})
-    found = fill(Maker(program, asked.symmetric, journal), asked.chapters, asked.seed,
+    journal = Journal(asked.book.with_name(f"{asked.book.name}.part"), program.path, {"symmetric": asked.is_symmetric})
+    found = fill(Maker(program, asked.is_symmetric, journal), asked.chapters, asked.seed,
                  Bar("puzzles", sum(one.count for one in asked.chapters)))
     entries = entries_of(asked.chapters, found)
 
-    def solve(game, text):
+    def solve(game: str, text: str) -> List[str]:
         return program.ask("solve", "--", game, text)[1:]
 
     _, solved_on, contents = build(asked, entries, solve)
@@ -149,7 +172,7 @@ def main():
     return 0
 
 
-def run():
+def run() -> None:
     begin(main)
 
 

@@ -2,11 +2,12 @@
 import argparse
 import dataclasses
 import pathlib
+from typing import Dict, List, Tuple, Union
 
 from .levels import LEVELS, OF_OTHERS, OF_SOLO
 from .._work import Fault
 from .outputs import rows_of
-from ..ids import GAMES, Refused, empty, lines, read, read_grid, written
+from ..ids import GAMES, Puzzle, Refused, empty, lines, read, read_grid, written
 
 MOST_PUZZLES = 5000
 MOST_EASY_BY_SEED = 9  # cells a side
@@ -19,21 +20,21 @@ class Chapter:
     size: str
     level: str
     count: int
-    ids: tuple = ()
+    ids: Tuple[str, ...] = ()
 
-    def is_large_and_easy(self):
+    def is_large_and_easy(self) -> bool:
         """Whether seeds seldom give a Solo of this level, since `generate` takes clues away as long as sets do for the rest."""
         return self.game == "solo" and self.level == "easy" and empty(self.game, self.size).width > MOST_EASY_BY_SEED
 
-    def is_by_effort(self):
+    def is_by_effort(self) -> bool:
         """Whether the level is a half of more puzzles: games with one rule set have no other measure."""
         return self.level in OF_OTHERS
 
-    def needed(self):
+    def needed(self) -> int:
         """How many puzzles have to be made."""
         return self.count * (2 if self.is_by_effort() else 1)
 
-    def chosen(self, made):
+    def chosen(self, made: "List[Made]") -> "List[Made]":
         """The puzzles of the chapter, of those that had to be made."""
         if self.is_by_effort():
             made = sorted(sorted(made, key=lambda one: (-one.effort, one.seed))[:self.count], key=lambda one: one.seed)
@@ -43,26 +44,26 @@ class Chapter:
 @dataclasses.dataclass(frozen=True)
 class Made:
     """A puzzle; one of a file has no seed."""
-    seed: object
+    seed: Union[int, str]
     id: str
-    answer: list
+    answer: List[str]
     grade: str
     effort: float
 
-    def puzzle(self, game):
+    def puzzle(self, game: str) -> Tuple[Puzzle, List[str]]:
         """The puzzle, and the signs of its solution."""
         puzzle = read(game, self.id)
         return puzzle, read_grid(puzzle, self.answer)
 
 
-def ids_of(game, path):
+def ids_of(game: str, path: pathlib.Path) -> Tuple[str, ...]:
     """The written IDs of a file: of each line one, or of a book's table those of the game."""
     if path.suffix == ".csv":
         given = [row["id"].encode() for row in rows_of(path) if row["game"] == game]
     else:
         with open(path, "rb") as file:
             given = [line for line in lines(file) if line.strip()]
-    found = {}
+    found: Dict[str, int] = {}
     for number, text in enumerate(given, 1):
         try:
             one = written(read(game, text))
@@ -74,7 +75,7 @@ def ids_of(game, path):
     return tuple(found)
 
 
-def of_file(game, path):
+def of_file(game: str, path: pathlib.Path) -> Chapter:
     """GAME:@FILE, a chapter of the IDs in a file."""
     try:
         ids = ids_of(game, path)
@@ -87,7 +88,7 @@ def of_file(game, path):
     return Chapter(game, path.stem, "any", len(ids), ids)
 
 
-def chapter(word):
+def chapter(word: str) -> Chapter:
     """GAME:SIZE:LEVEL:COUNT or GAME:@FILE, as a word of the command line."""
     game, at, name = word.partition(":@")
     if at and game in GAMES:

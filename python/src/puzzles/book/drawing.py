@@ -17,35 +17,48 @@ import argparse
 import itertools
 import pathlib
 import sys
+from typing import Iterable, List, Optional, Tuple
 
 from .._files import replace
 from .._work import Program, begin
 from .mending import Judge, mended
-from .pixels import pixels
+from .pixels import Rows, pixels
 from ..ids import MOST_SIDE, Puzzle, svg, written
 
 SEVERAL, GAVE_UP = 3, 4
 MOST_CHANGES = 1000
 
 
-def runs(cells):
+class Asked(argparse.Namespace):
+    """The words of the command line."""
+    drawing: pathlib.Path
+    svg: Optional[pathlib.Path]
+    width: Optional[int]
+    dark: Optional[float]
+    mend: Optional[pathlib.Path]
+    changes: int
+    program: str
+    budget: int
+
+
+def runs(cells: Iterable[bool]) -> List[int]:
     return [len(list(run)) for is_black, run in itertools.groupby(cells) if is_black]
 
 
-def pattern(rows):
+def pattern(rows: Rows) -> Puzzle:
     """The Pattern whose clues are those of a drawing."""
     clues = [runs(cells) for cells in [*zip(*rows), *rows]]
     width, height = len(rows[0]), len(rows)
     return Puzzle("pattern", f"{width}x{height}", width, height, cells=[""] * (width * height), clues=clues)
 
 
-def as_pbm(rows):
+def as_pbm(rows: Rows) -> bytes:
     """A drawing as a PBM in text."""
     lines = [" ".join("01"[cell] for cell in row) for row in rows]
     return "\n".join(["P1", f"{len(rows[0])} {len(rows)}", *lines, ""]).encode()
 
 
-def words():
+def words() -> Asked:
     form = argparse.ArgumentParser(description=__doc__, formatter_class=argparse.RawDescriptionHelpFormatter)
     form.add_argument("--svg", type=pathlib.Path, help="a file for the puzzle, or for the drawing with its open cells")
     form.add_argument("--width", type=int, metavar="N", help="scale the drawing to so many cells")
@@ -55,7 +68,7 @@ def words():
     form.add_argument("--program", default="puzzles", help="where `puzzles` is (puzzles, on the path)")
     form.add_argument("--budget", type=int, default=100_000, help="trials of a search (100000)")
     form.add_argument("drawing", type=pathlib.Path)
-    asked = form.parse_args()
+    asked = form.parse_args(namespace=Asked())
     if not 0 <= asked.budget < 2**64 or not 1 <= asked.changes <= MOST_CHANGES:
         form.error(f"a budget is 0 to 18446744073709551615, and changes are 1 to {MOST_CHANGES}")
     if asked.width is not None and not 1 <= asked.width <= MOST_SIDE or not 0 < (asked.dark or 50) <= 100:
@@ -63,17 +76,17 @@ def words():
     return asked
 
 
-def mend(asked, judge, rows):
+def mend(path: pathlib.Path, most: int, judge: Judge, rows: Rows) -> Tuple[Rows, Optional[List[int]]]:
     """The drawing with the changes that were needed, and its open cells."""
-    rows, changes, left = mended(judge, rows, asked.changes)
+    rows, changes, left = mended(judge, rows, most)
     for place in changes:
         column, row = place % len(rows[0]), place // len(rows[0])
         print(f"column {column + 1}, row {row + 1}: {'black' if rows[row][column] else 'white'}", file=sys.stderr)
-    replace({asked.mend: as_pbm(rows)})
+    replace({path: as_pbm(rows)})
     return rows, left
 
 
-def told(judge, puzzle, left):
+def told(judge: Judge, puzzle: Puzzle, left: Optional[List[int]]) -> Tuple[int, str]:
     """The status, and what is said."""
     if left is None:
         return GAVE_UP, "gave up: a larger --budget may tell"
@@ -82,13 +95,13 @@ def told(judge, puzzle, left):
     return 0, f"one: the drawing is the only solution; its grade is {judge.grade(puzzle)}"
 
 
-def main():
+def main() -> int:
     asked = words()
-    rows = pixels(asked.drawing, asked.width, asked.dark)
+    rows: Rows = pixels(asked.drawing, asked.width, asked.dark)
     judge = Judge(Program(asked.program), asked.budget, pattern)
     left = judge.open_cells(rows)
     if asked.mend:
-        rows, left = mend(asked, judge, rows)
+        rows, left = mend(asked.mend, asked.changes, judge, rows)
     puzzle = pattern(rows)
     status, said = told(judge, puzzle, left)
     print(written(puzzle), said, sep="\n")
@@ -103,7 +116,7 @@ def main():
     return status
 
 
-def run():
+def run() -> None:
     begin(main)
 
 

@@ -2,20 +2,26 @@
 import errno
 import fcntl
 import hashlib
+import io
 import json
 import os
 import threading
+from pathlib import Path
+from typing import Dict, List, Mapping, Optional, Tuple
 
 from .._work import DISK, Fault
+
+Found = Optional[Tuple[str, List[str], str, float]]  # ID, solution, grade and effort; read back it is a list
 
 
 class Journal:
     """A line of JSON for each seed, behind a first line that names the program and the words that a puzzle hangs on."""
 
-    def __init__(self, path, program, words):
+    def __init__(self, path: Path, program: str, words: Mapping[str, object]):
         with open(program, "rb") as file:
             head = json.dumps([hashlib.sha256(file.read()).hexdigest(), words]).encode()
-        self.path, self.lock, self.kept, self.file = path, threading.Lock(), {}, locked(path)
+        self.path, self.lock, self.file = path, threading.Lock(), locked(path)
+        self.kept: Dict[str, Found] = {}
         first, *lines = self.file.read().split(b"\n")[:-1] or [b""]  # what has no end was cut off
         if first != head:
             self.file.truncate(0)
@@ -30,7 +36,7 @@ class Journal:
             end += len(line) + 1
         self.file.truncate(end)
 
-    def write(self, line):
+    def write(self, line: bytes) -> None:
         try:
             count = self.file.write(line + b"\n")
         except OSError as fault:
@@ -38,23 +44,23 @@ class Journal:
         if count != len(line) + 1:
             raise OSError(errno.ENOSPC, os.strerror(errno.ENOSPC), str(self.path))
 
-    def __contains__(self, key):
+    def __contains__(self, key: str) -> bool:
         return key in self.kept
 
-    def get(self, key):
+    def get(self, key: str) -> Found:
         return self.kept[key]
 
-    def keep(self, key, value):
+    def keep(self, key: str, value: Found) -> None:
         with self.lock:
             self.kept[key] = value
             self.write(json.dumps({key: value}).encode())
 
-    def remove(self):
+    def remove(self) -> None:
         os.remove(self.path)
         self.file.close()
 
 
-def locked(path):
+def locked(path: Path) -> io.FileIO:
     """The file, which no other run has."""
     while True:
         file = open(path, "a+b", buffering=0)

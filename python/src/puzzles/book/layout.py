@@ -1,9 +1,10 @@
 """How large drawings are, and which stand on one page. Lengths are millimetres."""
 import dataclasses
 import math
+from typing import List, Optional, Sequence, Tuple
 
 from .._work import REFUSED, Fault
-from ..ids import Room
+from ..ids import Puzzle, Room
 from ..ids.drawing import DIGIT_HEIGHT, number_size
 
 TOP, BOTTOM = 13, 18
@@ -40,19 +41,19 @@ class Sheet:
     is_large: bool = False  # one puzzle a page
 
     @property
-    def width(self):
+    def width(self) -> float:
         return self.paper.width - 2 * self.paper.side - self.gutter
 
     @property
-    def height(self):
+    def height(self) -> float:
         return self.paper.height - TOP - BOTTOM - HEADING
 
     @property
-    def largest_cell(self):
+    def largest_cell(self) -> float:
         return 22.0 if self.is_large else 11.0
 
     @property
-    def least_digit(self):
+    def least_digit(self) -> float:
         """Of a solution: 6 points, or 10 in large print."""
         return (10 if self.is_large else 6) / 72 * 25.4
 
@@ -66,17 +67,18 @@ class Places:
     spare: float  # above and below each puzzle together
 
 
-def check(sheet, puzzle):
+def check(sheet: Sheet, puzzle: Puzzle) -> None:
     """Tells before anything is made that grids of a size are too large, whatever their clues."""
     cell = max(LEAST_CELL, solved_cell(sheet, puzzle))
     if puzzle.width * cell > sheet.width or puzzle.height * cell + LABEL > sheet.height:
         raise Fault(f"a puzzle of {puzzle.game} {puzzle.size} doesn't fit the paper with cells of {cell:.1f} mm", REFUSED)
 
 
-def places(sheet, puzzles, ids):
+def places(sheet: Sheet, puzzles: Sequence[Puzzle], ids: Sequence[str]) -> Places:
     """Where puzzles stand: on the fewest pages that leave cells to write in, and on these as few on each and as large as may be."""
-    game, found, fewest = puzzles[0].game, None, 0
-    widest, tallest = (max(getattr(Room(puzzle, False), side) for puzzle in puzzles) for side in ("width", "height"))
+    game, rooms, fewest = puzzles[0].game, [Room(puzzle, False) for puzzle in puzzles], 0
+    widest, tallest = max(room.width for room in rooms), max(room.height for room in rooms)
+    found: Optional[Places] = None
     for across, down in GRIDS[-1:] if sheet.is_large else GRIDS:
         column, pages = (sheet.width + GAP) / across - GAP, math.ceil(len(puzzles) / (across * down))
         id_lines = 0 if sheet.is_bare else math.ceil(max(map(len, ids)) * ID_WIDTH / (column * ID_SHARE))
@@ -90,7 +92,7 @@ def places(sheet, puzzles, ids):
     return found
 
 
-def solved_cell(sheet, puzzle):
+def solved_cell(sheet: Sheet, puzzle: Puzzle) -> float:
     """The millimetres of a cell of a solution, by the height of the numbers in it."""
     if puzzle.game in LEAST_SOLVED_CELL:
         least = LEAST_SOLVED_CELL[puzzle.game] * (1.5 if sheet.is_large else 1)
@@ -98,15 +100,16 @@ def solved_cell(sheet, puzzle):
     return sheet.least_digit / (number_size(puzzle, True) * DIGIT_HEIGHT) * 1.01
 
 
-def shelves(sheet, sizes):
+def shelves(sheet: Sheet, sizes: Sequence[Tuple[float, float]]) -> List[List[List[int]]]:
     """Pages of rows of numbers of drawings, for drawings of these widths and heights, in order."""
-    pages, across, down, tallest = [[[]]], 0, 0, 0
+    pages: List[List[List[int]]] = [[[]]]
+    across = down = tallest = 0.0
     for number, (width, height) in enumerate(sizes):
         if width > sheet.width or height + LABEL > sheet.height:
             raise Fault(f"the solution of puzzle {number + 1} doesn't fit the paper with numbers that can be read", REFUSED)
         if across + width > sheet.width:
             pages[-1].append([])
-            across, down, tallest = 0, down + tallest, 0
+            across, down, tallest = 0.0, down + tallest, 0.0
         if down + max(tallest, height + LABEL + SOLVED_GAP) > sheet.height + SOLVED_GAP:
             row = pages[-1].pop()
             pages.append([row] if row else [[]])

@@ -5,27 +5,31 @@ import contextlib
 import functools
 import itertools
 import os
+from typing import Callable, Deque, Generator, Iterable, Iterator, List, Optional, Sequence, Tuple
 
 from . import levels
-from .chapters import Made
+from .chapters import Chapter, Made
 from .._effort import effort
-from .._work import REFUSED, Fault
+from .._work import REFUSED, Bar, Fault, Program
 from ..ids import read, written
+from .journal import Found, Journal
 from .thinning import thinned
 
 SEEDS_FOR_ONE = 1000  # that are tried for each puzzle, at most
 BARREN_SEEDS = 64  # after which a chapter is given up, if none of them made a puzzle of any grade
 AHEAD = 16  # seeds
 CROSSED_TRIALS = 1000  # with which the solved grid of a Solo X is made
+Tell = Callable[[int, Optional[int]], None]  # of puzzles that are there, and the seed
+BySeed = Tuple[int, Optional[Made]]
 
 
 class Maker:
     """Makes puzzles of seeds. The journal keeps what was made."""
 
-    def __init__(self, program, is_symmetric, journal):
+    def __init__(self, program: Program, is_symmetric: bool, journal: Journal):
         self.program, self.is_symmetric, self.journal = program, is_symmetric, journal
 
-    def make(self, asked, seed):
+    def make(self, asked: Chapter, seed: int) -> Optional[Made]:
         """The puzzle that a seed gives to a chapter; None if it gives none."""
         key = f"{asked.game} {asked.size} {asked.level} {seed}"
         if key not in self.journal:
@@ -33,14 +37,14 @@ class Maker:
         found = self.journal.get(key)
         return found and Made(seed, *found)
 
-    def taken(self, game, text):
+    def taken(self, game: str, text: str) -> Made:
         """A puzzle of a file, which must have one solution."""
         verdict, *answer = self.program.ask("solve", "--", game, text)
         if verdict != "one":
             raise Fault(f"no puzzle for a book, since `solve` answers {verdict}: {text}", REFUSED)
         return Made("", text, answer, self.program.ask("grade", "--", game, text)[0], 0)
 
-    def made(self, asked, seed):
+    def made(self, asked: Chapter, seed: int) -> Found:
         ask, is_crossed = self.program.ask, asked.size.endswith("x")
         budget = CROSSED_TRIALS if is_crossed else levels.budget(asked.level, asked.game)
         lines = ask("generate", f"--budget={budget}", f"--seed={seed}", "--", asked.game, asked.size)
@@ -54,7 +58,7 @@ class Maker:
         grade, *trace = ask("grade", "--trace", "--", asked.game, text)
         return text, answer, grade, effort(read(asked.game, text), trace)
 
-    def test(self, asked):
+    def test(self, asked: Chapter) -> Callable[[str], bool]:
         """Tells of an ID of Solo, from which clues were taken, whether they may go."""
         words, wanted = ("solve", f"--budget={levels.budget(asked.level, asked.game)}"), "one"
         if asked.is_large_and_easy():
@@ -62,9 +66,10 @@ class Maker:
         return lambda text: self.program.ask(*words, "--", "solo", text)[0] == wanted
 
 
-def fill(maker, chapters, first, bar):
+def fill(maker: Maker, chapters: Sequence[Chapter], first: int, bar: Bar) -> List[List[Made]]:
     """The puzzles of each chapter: of its file, or by ascending seeds. Chapters take turns at these, so no grid comes twice."""
-    found, done, turns, step = [], 0, itertools.count(first), sum(not one.ids for one in chapters)
+    found: List[List[Made]] = []
+    done, turns, step = 0, itertools.count(first), sum(not one.ids for one in chapters)
     with concurrent.futures.ThreadPoolExecutor(os.cpu_count()) as pool:
         try:
             for asked in chapters:
@@ -85,19 +90,21 @@ def fill(maker, chapters, first, bar):
     return found
 
 
-def told(bar, before, count, seed=None):
+def told(bar: Bar, before: int, count: int, seed: Optional[int]) -> None:
     bar.tell(before + count, "" if seed is None else f", seed {seed}")
 
 
-def progress(made, tell):
+def progress(made: Iterable[Made], tell: Tell) -> Iterator[Made]:
     for count, one in enumerate(made, 1):
-        tell(count)
+        tell(count, None)
         yield one
 
 
-def in_order(maker, pool, asked, seeds):
+def in_order(maker: Maker, pool: concurrent.futures.Executor, asked: Chapter,
+             seeds: Iterable[int]) -> Generator[BySeed, None, None]:
     """Each seed with its puzzle. Some are made ahead, so that all cores work."""
-    seeds, ahead = iter(seeds), collections.deque()
+    seeds = iter(seeds)
+    ahead: "Deque[Tuple[int, concurrent.futures.Future[Optional[Made]]]]" = collections.deque()
     try:
         while True:
             ahead.extend((seed, pool.submit(maker.make, asked, seed)) for seed in itertools.islice(seeds, AHEAD - len(ahead)))
@@ -110,9 +117,10 @@ def in_order(maker, pool, asked, seeds):
             future.cancel()
 
 
-def fill_one(asked, made, tell):
+def fill_one(asked: Chapter, made: Generator[BySeed, None, None], tell: Tell) -> List[Made]:
     """The puzzles of a chapter, of the seeds in `made`."""
-    taken, is_barren, wanted = [], True, asked.needed()
+    taken: List[Made] = []
+    is_barren, wanted = True, asked.needed()
     with contextlib.closing(made):
         for tried, (seed, one) in enumerate(made, 1):
             is_barren = is_barren and not one

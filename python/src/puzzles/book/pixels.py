@@ -1,14 +1,18 @@
 """Reads a picture as the cells of a drawing. It needs Debian's python3-pil."""
 import sys
+from pathlib import Path
+from typing import Any, List, Optional, Sequence
 
 from .._work import REFUSED, Fault
 from ..ids import MOST_SIDE
 
+Rows = Sequence[Sequence[bool]]  # of a drawing: whether each cell is black
+Picture = Any  # of PIL, which has no types
 MOST_PIXELS = 10_000  # each way, of a picture that is scaled
 WHITE, HALF = 3 * 255, 50  # sum of the colours, and per cent of it
 
 
-def pixels(path, width=None, dark=None):
+def pixels(path: Path, width: Optional[int] = None, dark: Optional[float] = None) -> List[List[bool]]:
     """The rows of a drawing: whether each cell is black. Of more than two colours if they are scaled, or told apart by `dark`."""
     picture = on_paper(opened(path, MOST_SIDE if width is None else MOST_PIXELS))
     if width is not None:
@@ -21,7 +25,7 @@ def pixels(path, width=None, dark=None):
     return [cells[at:at + picture.width] for at in range(0, len(cells), picture.width)]
 
 
-def opened(path, most):
+def opened(path: Path, most: int) -> Picture:
     """The picture of a file, with at most so many pixels each way."""
     try:
         from PIL import Image
@@ -39,7 +43,7 @@ def opened(path, most):
     raise Fault(f"{path} has {size[0]}x{size[1]} pixels, and at most {most} each way are taken{more}", REFUSED)
 
 
-def on_paper(picture):
+def on_paper(picture: Picture) -> Picture:
     """The picture on white, where it is transparent."""
     from PIL import Image
     paper = Image.new("RGBA", picture.size, "white")
@@ -47,7 +51,7 @@ def on_paper(picture):
     return paper.convert("RGB")
 
 
-def scaled(picture, width, path):
+def scaled(picture: Picture, width: int, path: Path) -> Picture:
     from PIL import Image
     height = max(1, round(picture.height * width / picture.width))
     if height > MOST_SIDE:
@@ -55,10 +59,10 @@ def scaled(picture, width, path):
     return picture.resize((width, height), Image.BOX)
 
 
-def between(picture, path):
+def between(picture: Picture, path: Path) -> float:
     """A shade between the two of a drawing, as a sum of its colours."""
     colours = picture.getcolors(2)
     if not colours:
         raise Fault(f"{path} has more than two colours: --dark P takes the darker ones for black", REFUSED)
-    shades = [sum(colour) for _, colour in colours]
+    shades: List[int] = [sum(colour) for _, colour in colours]
     return sum(shades) / 2 if len(shades) == 2 else WHITE / 2

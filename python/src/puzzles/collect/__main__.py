@@ -23,6 +23,7 @@ import multiprocessing
 import os
 import signal
 import sys
+from typing import Callable, Dict, Iterable, List, Optional, TypeVar
 
 from .forms import form
 from .grading import ID_SECONDS, Grader, Measurer
@@ -30,24 +31,44 @@ from .._effort import effort
 from .._work import REFUSED, Bar, Fault, Program, begin
 from .listing import print_rows
 from ..ids import GAMES, Refused, lines, read, written
-from .table import NO_GRADES, RULE_SETS, Table
+from .table import NO_GRADES, RULE_SETS, Met, Table
 
 STEP = 1000  # lines in a transaction
 TOLD = 10  # refused lines that are told one by one
 WITH_PROGRAM = ("add", "grade", "measure")
+One = TypeVar("One")
 OPEN, TO_MEASURE, WITHOUT_FORM = "verdict IS NULL", "verdict = 'one' AND effort IS NULL", "form IS NULL"
 
 
-def add(asked, table):
+class Asked(argparse.Namespace):
+    """The words of the command line: each command has those that are its own."""
+    does: str
+    table: str
+    game: str
+    file: str
+    source: Optional[str]
+    later: bool
+    program: str
+    budget: int
+    library: Optional[str]
+    ids: str
+    answers: str
+    grade: Optional[str]
+    most: int
+    apart: bool
+    kind: str
+
+
+def add(asked: Asked, table: Table) -> int:
     """Takes the lines of a file in, from where the table left off."""
-    refused = 0
+    refused, source = 0, asked.source or asked.file
     with open(asked.file, "rb") as file:
         given = lines(file)
-        first = table.resume(asked.source, asked.game, given) + 1
+        first = table.resume(source, asked.game, given) + 1
         bar, taken = Bar("bytes", os.fstat(file.fileno()).st_size), 0
         while step := list(itertools.islice(given, STEP)):
             met = [row(asked.game, line) for line in step]
-            table.take(asked.source, asked.game, first, step, met)
+            table.take(source, asked.game, first, step, met)
             for number, (_, fault) in enumerate(met, first):
                 refused += bool(fault)
                 if fault and refused <= TOLD:
@@ -56,15 +77,15 @@ def add(asked, table):
             taken += sum(len(line) + 1 for line in step)
             bar.tell(taken)
         bar.end()
-    other = table.same_file(asked.source, asked.game)
+    other = table.same_file(source, asked.game)
     if other:
-        print(f"{asked.source} has the lines of {other}, so each is met once more: `forget` takes it back", file=sys.stderr)
+        print(f"{source} has the lines of {other}, so each is met once more: `forget` takes it back", file=sys.stderr)
     if refused > TOLD:
         print(f"{refused} lines in all are no IDs: the table `refusal` has them", file=sys.stderr)
     return REFUSED if refused else 0
 
 
-def row(game, line):
+def row(game: str, line: bytes) -> Met:
     """What a line adds to the table: ID, size and clues; or the fault that it has."""
     try:
         puzzle = read(game, line)
@@ -73,7 +94,7 @@ def row(game, line):
     return (written(puzzle), puzzle.size, puzzle.count_clues()), None
 
 
-def all_done(bar, parts, keep):
+def all_done(bar: Bar, parts: Iterable[List[One]], keep: Callable[[List[One]], None]) -> None:
     """Keeps each part of what is to be done, as it comes."""
     done = 0
     try:
@@ -85,7 +106,7 @@ def all_done(bar, parts, keep):
         bar.end()
 
 
-def grade(asked, table):
+def grade(asked: Asked, table: Table) -> None:
     """Grades what has no verdict, a part at a time."""
     bar, program = Bar("graded", table.count(asked.game, OPEN)), Program(asked.program, ID_SECONDS)
     grader = Grader(program, asked.game, asked.budget, asked.library)
@@ -93,7 +114,7 @@ def grade(asked, table):
         all_done(bar, parts, functools.partial(table.grade, asked.game))
 
 
-def measure(asked, table):
+def measure(asked: Asked, table: Table) -> None:
     """Counts the steps of the deduction of what has one solution."""
     bar, program = Bar("measured", table.count(asked.game, TO_MEASURE)), Program(asked.program, ID_SECONDS)
     measurer = Measurer(program, asked.game, lambda game, text, trace: effort(read(game, text), trace))
@@ -101,13 +122,13 @@ def measure(asked, table):
         all_done(bar, parts, functools.partial(table.set, "effort", asked.game))
 
 
-def leave_signals():
+def leave_signals() -> None:
     """A process of a pool ends when its parent ends it, and not by Ctrl-C."""
     signal.signal(signal.SIGINT, signal.SIG_IGN)
     signal.signal(signal.SIGTERM, signal.SIG_DFL)
 
 
-def find_forms(asked, table):
+def find_forms(asked: Asked, table: Table) -> None:
     """Finds the forms of puzzles, on all cores."""
     bar, ids = Bar("forms", table.count(asked.game, WITHOUT_FORM)), table.ids(asked.game, WITHOUT_FORM)
     with multiprocessing.Pool(os.cpu_count(), leave_signals) as pool:
@@ -120,7 +141,7 @@ def find_forms(asked, table):
     print("{:,} forms are of {:,} puzzles: the view `doubles` has them".format(*found))
 
 
-def take_grades(asked, table):
+def take_grades(asked: Asked, table: Table) -> None:
     """Takes in the answers that a job wrote, line by line beside the IDs that it was given."""
     taken = 0
     with open(asked.ids, "rb") as ids, open(asked.answers, "rb") as given:
@@ -134,12 +155,12 @@ def take_grades(asked, table):
                             "before are taken", REFUSED)
 
 
-def forget(asked, table):
+def forget(asked: Asked, table: Table) -> None:
     refusals, puzzles = table.forget(asked.file, asked.game)
     print(f"{puzzles:,} puzzles and {refusals:,} refusals are gone; puzzles that were met again stay")
 
 
-def words():
+def words() -> Asked:
     form_of_words = argparse.ArgumentParser(description=__doc__, formatter_class=argparse.RawDescriptionHelpFormatter)
     does = form_of_words.add_subparsers(dest="does", required=True, metavar="|".join(COMMANDS))
     for name in COMMANDS:
@@ -158,7 +179,7 @@ def words():
         one.add_argument("game", choices=GAMES)
         for more in {"add": ["file"], "forget": ["file"], "grades": ["ids", "answers"]}.get(name, []):
             one.add_argument(more)
-    asked = form_of_words.parse_args()
+    asked = form_of_words.parse_args(namespace=Asked())
     if not 0 <= getattr(asked, "budget", 0) < 2**64:
         form_of_words.error("a budget is 0 to 18446744073709551615")
     if not 0 < getattr(asked, "most", 1) < 2**63:
@@ -166,7 +187,7 @@ def words():
     return asked
 
 
-def list_words(one):
+def list_words(one: argparse.ArgumentParser) -> None:
     one.add_argument("--grade", choices=(*RULE_SETS, "search", *NO_GRADES), help="of this grade or verdict alone (one solution)")
     one.add_argument("--most", type=int, default=2**63 - 1, help="so many at most (all)")
     one.add_argument("--apart", action="store_true", help="of puzzles with one form the first alone")
@@ -175,28 +196,28 @@ def list_words(one):
     kinds.add_argument("--json", dest="kind", action="store_const", const="json", help="all columns as JSON, an object a line")
 
 
-def add_and_grade(asked, table):
-    asked.source = asked.source or asked.file
+def add_and_grade(asked: Asked, table: Table) -> int:
     status = add(asked, table)
     if not asked.later:
         grade(asked, table)
     return status
 
 
-def print_open(asked, table):
+def print_open(asked: Asked, table: Table) -> None:
     for text in table.ids(asked.game, OPEN):
         print(text)
 
 
-def print_list(asked, table):
+def print_list(asked: Asked, table: Table) -> None:
     print_rows(table.listed(asked.game, asked.grade, asked.most, asked.apart), asked.kind)
 
 
-COMMANDS = {"add": add_and_grade, "grade": grade, "measure": measure, "forms": find_forms, "list": print_list, "forget": forget,
-            "open": print_open, "grades": take_grades}
+COMMANDS: Dict[str, Callable[[Asked, Table], Optional[int]]] = {
+    "add": add_and_grade, "grade": grade, "measure": measure, "forms": find_forms, "list": print_list, "forget": forget,
+    "open": print_open, "grades": take_grades}
 
 
-def main():
+def main() -> int:
     asked = words()
     with Table(asked.table) as table:
         status = COMMANDS[asked.does](asked, table)
@@ -205,7 +226,7 @@ def main():
     return status or 0
 
 
-def run():
+def run() -> None:
     begin(main)
 
 
