@@ -23,7 +23,7 @@ OUT = """
 
 
 def try_fingers(page, server, tally):
-    for part in (sizes, numbers, clue_numbers, german, wrong_forms, newest, ring, asked_twice, sheet, heading):
+    for part in (sizes, numbers, games, clue_numbers, german, wrong_forms, newest, ring, asked_twice, sheet, heading):
         part(page, server, tally)
 
 
@@ -48,6 +48,21 @@ def numbers(page, _, tally):
         page.open("solo", text)
         tops = page.script("return [...document.querySelectorAll('#pad button')].map((found) => found.getBoundingClientRect().top)")
         tally.same(f"rows of the numbers of {text[:4]}", [tops.count(top) for top in sorted(set(tops))], rows)
+    page.size(1280, 800)
+
+
+def games(page, _, tally):
+    """The name of each game is seen whole."""
+    page.size(390, 664)
+    for game in ("solo", "pattern", "lightup", "tents"):
+        page.open(game, {"solo": SOLO, "pattern": ROW, "lightup": "2x2:2c", "tents": TENTS}[game])
+        wide, room = page.script("""
+            const box = document.getElementById('game'), look = getComputedStyle(box);
+            const pen = document.createElement('canvas').getContext('2d');
+            pen.font = `${look.fontSize} ${look.fontFamily}`;
+            const beside = parseFloat(look.paddingLeft) + parseFloat(look.paddingRight) + 24; // and the arrow
+            return [pen.measureText(box.selectedOptions[0].text).width, box.clientWidth - beside];""")
+        tally.true(f"the name of {game}: {wide} of {room}", wide <= room)
     page.size(1280, 800)
 
 
