@@ -9,7 +9,7 @@ import threading
 import time
 from pathlib import Path
 
-from page import browser, player
+from page import browser, helped
 from page.faults import FIFTH
 from page.server import RUN, TOP, WAIT
 
@@ -74,7 +74,7 @@ def try_page(server, tally, module):
     served = Served(module)
     with browser.opened(served.url, tally) as page:
         browser.try_games(page, server, tally)
-        player.hints(page, server, tally)
+        helped.hints(page, server, tally)
         clock(page, tally)
         offline(page, server, tally)
         renewed(page, served, tally, module)
