@@ -4,12 +4,10 @@ ghost use Rattle.std.specs.Prelude.{◌≡◌, ℕ, ◌<◌, ◌≤◌, ◌&&◌
 ghost use Rattle.grid_core.specs.Candidates.{max_values};
 ghost use Rattle.solo_core.specs.Common.{has_bit as is_set, has_in};
 ghost use Rattle.solo_core.specs.PeeledHouses.{AreAllCounts, AreLone, AreMetOutside, AreSettledBut, AreSettledCells, IsPaired, IsPeeled, IsRest, KeepsFillings, KeepsOthers, KeepsReaching};
-ghost use Rattle.solo_core.specs.OpenHouses.{IsOpenHouse, ListsBits};
 
 use crate::visits::bits::{next_bit, others_below, with_bit_if};
 use crate::visits::graph::MANY;
 use crate::visits::mates::pair_rest;
-use crate::visits::open::OpenHouse;
 use crate::visits::peel::{Counts, are_whole, peel};
 use crate::visits::reach::{close_under_steps, write_leads};
 use crate::visits::settle::{settle, strike_settled};
@@ -47,34 +45,8 @@ pub(crate) fn keep_houses(values: u8, sets: &[u32], kept: &mut [u32], pairing: &
     }
 }
 
-/// Decides what is kept of the sets of a house in which these cells and values are open. The rest are the open cells. Says
-/// whether anything may be struck, or that no filling without repeat is left.
-#[inline(always)]
-pub(crate) fn keep_open(
-    values: u8,
-    house: OpenHouse,
-    rest: &[u8],
-    kept: &mut [u32],
-    pairing: &mut Pairing,
-) -> Option<bool>
-    requires few { values ≤ max_values }
-    requires square { length kept.old ≡ values }
-    requires house { IsOpenHouse (has_in kept.old) values house }
-    requires rest { ListsBits house.cells rest.now }
-    requires rest_few { length rest.now ≤ values }
-    requires room { values ≤ pairing.old.room }
-    ensures decided { IfSome result (λ is_struck. KeepsFillings values kept.old kept.new) }
-    ensures same { result ≡ Some false → kept.new ≡ kept.old }
-    ensures none { IfNone result (KeepsFillings values kept.old (replicate values 0)) }
-    ensures others { KeepsOthers rest.now kept.old kept.new }
-    ensures room { pairing.new.room ≡ pairing.old.room }
-{
-    let closed = others_below(values, house.values);
-    keep_settled(values, closed, rest, kept, pairing)
-}
-
-/// The same of a house in which all cells but the rest are settled, and have these values.
-#[inline(always)]
+/// Decides what is kept of the sets of a house in which all cells but the rest are settled, and have these values. Says whether
+/// anything may be struck, or that no filling without repeat is left.
 fn keep_settled(
     values: u8,
     settled: u32,
@@ -93,6 +65,35 @@ fn keep_settled(
     ensures room { pairing.new.room ≡ pairing.old.room }
 {
     let (counts, is_struck) = strike_settled(values, settled, rest, kept);
+    keep_counted(values, counts, settled, rest, kept, is_struck, pairing)
+}
+
+/// The same where the values of settled cells are struck from the rest, and the values of all cells are counted. Says whether
+/// anything may be struck, or was before.
+#[inline(always)]
+pub(crate) fn keep_counted(
+    values: u8,
+    counts: Counts,
+    settled: u32,
+    rest: &[u8],
+    kept: &mut [u32],
+    is_struck: bool,
+    pairing: &mut Pairing,
+) -> Option<bool>
+    requires few { values ≤ max_values }
+    requires square { length kept.old ≡ values }
+    requires counts { AreAllCounts kept.old counts.some counts.single counts.shared }
+    requires settled { AreSettledCells kept.old rest.now settled }
+    requires rest { IsRest values kept.old rest.now }
+    requires lone { AreLone values kept.old settled }
+    requires outside { AreMetOutside kept.old rest.now settled }
+    requires room { values ≤ pairing.old.room }
+    ensures decided { IfSome result (λ b. KeepsFillings values kept.old kept.new) }
+    ensures same { result ≡ Some false → (kept.new ≡ kept.old) × (is_struck ≡ false) }
+    ensures none { IfNone result (KeepsFillings values kept.old (replicate values 0)) }
+    ensures others { KeepsOthers rest.now kept.old kept.new }
+    ensures room { pairing.new.room ≡ pairing.old.room }
+{
     let (lone, is_struck) = peel_if_open(values, counts, settled, rest, kept, is_struck);
     keep_unless_whole(values, lone, rest, kept, is_struck, pairing)
 }
