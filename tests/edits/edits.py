@@ -28,8 +28,8 @@ import tempfile
 import threading
 import time
 
-from edits.program import TestProgram
-from edits.tree import TOP, Copy, Edit, Fault, NotBuilt, below, crates_of
+from edits_program import TestProgram
+from edits_tree import TOP, Copy, Edit, Fault, NotBuilt, below, crates_of
 from kit import Failed, Kit
 from puzzles._work import end
 

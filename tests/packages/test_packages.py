@@ -100,9 +100,10 @@ def test_same(packages):
 def examples_of_readme():
     """Command lines and what they write, of README's four examples."""
     text = (TOP / "README.md").read_text().partition("## Four examples")[2].partition("\n## ")[0]
-    for block in re.findall(r"```console\n(.*?)```", text, re.S):
-        command, _, output = block.removeprefix("$ ").partition("\n")
-        yield command, output
+    for session in re.findall(r"```console\n(.*?)```", text, re.S):
+        for part in re.split(r"^\$ ", session, flags=re.M)[1:]:
+            command, _, output = part.partition("\n")
+            yield command, output
 
 
 def tried(packages, folder):

@@ -10,6 +10,7 @@
 - A line has at most 130 columns and a sentence at most 25 words, outside of tables, code and the theorem that is quoted.
 - What docs/DECISIONS.md and docs/PROOF.md name in code marks is in the crates, or a place, a word or a game of the program, but
   behind *Tried* and *Weighed*.
+- A word has one definition in all of crates/*/specs, but for those of TWICE, a list that only gets shorter.
 - Each script that a document names, a file that begins with #!, can be run, prints a text of its own by --help, and meets a wrong
   word without a traceback.
 
@@ -23,6 +24,7 @@ import subprocess
 import sys
 
 from tree import fifth_game
+from tree.contracts import HANDING_ON, defined
 
 TOP = pathlib.Path(__file__).resolve().parents[2]
 COLUMNS, WORDS = 130, 25
@@ -30,6 +32,17 @@ HELP_SECONDS = 600
 PLACE = re.compile(r"(?:docs|bench|tests|packaging|python|examples|page|library|crates|\.ci)/[\w./-]*\w")
 NUMBER = re.compile(r"\d[\d,]*")
 NAME = re.compile(r"[A-Za-z_][\w-]*\w")
+TWICE = {  # words with two definitions, and why they still have them: this list only gets shorter
+    "cells_of": "of a board of sets, and of planes: each crate imports one of them",
+    "has": "the same",
+    "back_at": "of a trail, and of planes: the board that a length leads back to",
+    "HasRoomFor": "whether words of planes are long enough; whether notes of Solo are",
+    "number_of": "of a line; of a text",
+    "numbered": "the houses of a numbered cell of Light Up; the game of a number",
+    "has_other": "of Solo's sets, and of the rules that the tests make up",
+    "strikes_of": "of a count house, and of the rules that the tests make up",
+    "listed": "what a list of houses is; rules that the tests make up",
+}
 
 
 def documents():
@@ -160,6 +173,25 @@ def numbers():
     yield from fifth_game.faults()
 
 
+def doubles(texts, known):
+    """What is wrong with the words of definitions, by the text of each place: those that have two, but for the known ones."""
+    places = {}
+    for place, text in sorted(texts.items()):
+        for word in sorted(defined(text)):
+            places.setdefault(word, []).append(place)
+    for word, there in places.items():
+        if len(there) > 1 and word not in known:
+            yield f"{word} has {len(there)} definitions: {', '.join(there)}. One word has one meaning"
+    yield from (f"TWICE of documents.py: {word} has one definition, or none: take it out" for word in known
+                if len(places.get(word, [])) < 2)
+
+
+def definitions():
+    """The files of definitions, by their places; without lists of modules, and those that hand words on."""
+    files = (file for file in TOP.glob("crates/*/specs/**/*.antt") if file.stem not in {*HANDING_ON, "Lib"})
+    return {str(file.relative_to(TOP)): file.read_text() for file in files}
+
+
 def examples():
     """The examples of docs/CALLING.md that don't stand in their file."""
     text = (TOP / "docs" / "CALLING.md").read_text()
@@ -190,7 +222,7 @@ def stale(path):
 def scripts():
     """What is wrong with the scripts that a document names."""
     text = "".join(path.read_text() for path in documents())
-    named = re.findall(r"(?:bench|outside|examples|library|page)/[\w/]+\.(?:py|sh)", text)
+    named = re.findall(r"(?:bench|tests|packaging|examples|library|page)/[\w/]+\.(?:py|sh)", text)
     names = [name for name in named if (TOP / name).exists()]
     names += [f"bench/{name}" for name in re.findall(r"^\| `(\w+\.py)", (TOP / "bench" / "README.md").read_text(), re.M)]
     for name in sorted(set(names)):
@@ -215,6 +247,7 @@ def all_faults():
     yield from (f"{name}: README.md has {here}, docs/FORMATS.md {there}" for name, here, there in twice() if here != there)
     yield from (f"{name}: README.md has {here}, docs/puzzles.1 {there}" for name, here, there in by_manual() if here != there)
     yield from (fault for name in ("DECISIONS.md", "PROOF.md") for fault in stale(TOP / "docs" / name))
+    yield from doubles(definitions(), TWICE)
     yield from (fault for look in (numbers, examples, scripts) for fault in look())
 
 

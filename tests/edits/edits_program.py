@@ -7,7 +7,7 @@ import re
 import shutil
 import subprocess
 
-from edits.tree import CHOOSERS_CRATE, TOP, Fault, NotBuilt
+from edits_tree import CHOOSERS_CRATE, TOP, Fault, NotBuilt
 from kit import Failed, run
 
 TARGET = ["--target=x86_64-unknown-linux-gnu", "-march=x86-64-v2"]
