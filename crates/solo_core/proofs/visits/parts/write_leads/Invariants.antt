@@ -1,5 +1,5 @@
 use Rattle.std.proofs.Common.{◌≡◌, ℕ, ◌<◌, length, slice_index}
-use Rattle.solo_core.proofs.visits.reach.write_leads.Given as goal
+use Rattle.solo_core.proofs.visits.parts.write_leads.Given as goal
 
 abbrev pub invariant-loop-i : goal.invariant-loop-i
 invariant-loop-i l = record {
