@@ -3,9 +3,8 @@ import { ask, forget } from "./ask.js";
 import { GAMES, isGame } from "./games.js";
 import { last, promised } from "./kept.js";
 import { words } from "./language.js";
-import { linked as otherLink } from "./links.js";
 import { generate, keptWords } from "./make.js";
-import { written } from "./puzzle.js";
+import { meant, parts, plain } from "./meant.js";
 import { refuse, setGame, show } from "./show.js";
 import { $, say, table } from "./table.js";
 
@@ -26,28 +25,11 @@ async function open(game, text, options) {
   return good;
 }
 
-const plain = (text) => { try { return decodeURIComponent(text); } catch { return text; } };
-const parts = (name) => name.match(/^(\w*)\/(.*)$/s) || [name, "", name];
-
-// Sudokus in a line: "." and "0", "_" and "*" are blank, and a letter is a number from 10 on.
-const SUDOKUS = { 16: "2x2", 36: "2x3", 81: "3x3", 256: "4x4" };
-const numberOf = (sign) => (/[.0_*]/.test(sign) ? "" : String(parseInt(sign, 36)));
-
-// What a player has written: a link, also of other pages, a sudoku of so many characters as it has cells, or an ID.
-function meant(text, game) {
-  const [, linked, id] = parts(plain(text.match(/(?:^|#)([a-z]+(\/|%2F).*)$/is)?.[1] || ""));
-  const cells = text.replace(/\s/g, ""), other = otherLink(text);
-  if (isGame(linked)) return [linked, id.trim()];
-  if (other?.id) return [other.game, other.id];
-  if (/^[\w.*]+$/.test(cells) && SUDOKUS[cells.length]) return ["solo", written(SUDOKUS[cells.length], [...cells].map(numberOf))];
-  return [game, text];
-}
-
 // If the game that is chosen refuses an ID, another one may take it.
 export async function enter() {
-  const chosen = $("game").value, [game, text] = meant($("id").value.trim(), chosen);
+  const chosen = $("game").value, { game, text, fault: unfit, called } = meant($("id").value.trim(), chosen);
   say("");
-  if (otherLink(text)?.isVariant) return void say(words.said.variant, "bad");
+  if (unfit) return void $("fault").replaceChildren(called ? words.unknown(called) : words.said[unfit]);
   if (await open(game, text) !== false || game !== chosen) return;
   const fault = [...$("fault").childNodes];
   for (const other of Object.keys(GAMES).filter((name) => name !== game)) {

@@ -40,7 +40,8 @@ function layPad() {
   const { puzzle } = table.play, isColours = table.mode === "colours", count = isColours ? COLOURS : puzzle.block ? puzzle.w : 0;
   const button = (k) => element("button", isColours ? { value: k, "data-colour": k } : { value: k }, k, element("small", {}));
   $("pad").replaceChildren(...range(count, (k) => button(k + 1)));
-  $("pad").style.setProperty("--numbers", count > 9 ? Math.ceil(count / 2) : count);
+  const inRows = (most) => (count > most ? Math.ceil(count / 2) : count); // in one row or two; the second is for a phone
+  $("pad").style = `--numbers: ${inRows(9)}; --across: ${inRows(6)}`;
 }
 
 export function setMode(mode) {

@@ -2,7 +2,7 @@
 import contextlib
 import tempfile
 
-from page import comfort, expected, fingers, hinting, kept, looks, paper, player, speed
+from page import comfort, drawn, expected, fingers, helped, hinting, kept, looks, paper, player, speed, visits
 from page.driver import By, Keys, Page, WebDriverException
 
 DESK = (1280, 800)
@@ -20,8 +20,8 @@ HOSTILE = ["--budget=5", "--", "<img src=x onerror=document.title='hurt'>", "';\
 
 def try_page(server, tally):
     """The page over its server, in Chromium."""
-    parts = [try_games, kept.try_kept, player.try_player, comfort.try_comfort, looks.try_looks, fingers.try_fingers,
-             hinting.try_hinting, expected.try_expected,
+    parts = [try_games, kept.try_kept, player.try_player, drawn.try_drawn, helped.try_helped, comfort.try_comfort,
+             visits.try_visits, looks.try_looks, fingers.try_fingers, hinting.try_hinting, expected.try_expected,
              paper.try_paper, speed.try_speed]
     with opened(server.url, tally) as page:
         for part in parts:

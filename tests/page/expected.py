@@ -166,19 +166,24 @@ def keys(page, _, tally):
 
 
 def links(page, _, tally):
-    """A sudoku of another page's link, or in a line with other signs for blank; a variant is refused by name."""
+    """A sudoku of another page's link, or in a line with other signs for blank. A game that isn't here is told by its name."""
     for given, text in (("https://puzz.link/p?sudoku/4/4/1h4n3i", "2x2:1b4h3c"), ("1__4____________", "2x2:1b4l"),
                         ("1**4" + "." * 12, "2x2:1b4l")):
         page.open("tents", TENTS)
         page.put("#id", given)
         page.click("#enter")
         page.until(f"opens {given}", lambda text=text: the_id(page) == text)
-    page.open("tents", TENTS)
-    page.put("#id", "https://puzz.link/p?slither/4/4/1h4")
-    page.click("#enter")
-    page.until("refuses another game", lambda: page.text("#fault"))
-    tally.same("the board stays", the_id(page) != "", True)
-    tally.same("the refusal names the ID", page.text("#fault").startswith("This ID is refused"), True)
+    for given, said in (("https://puzz.link/p?slither/4/4/1h4", "There is no game “slither” here."),
+                        ("loopy/7x7t0:a3b", "There is no game “loopy” here."),
+                        ("https://sudokus.example/today", "This link names no game that is here."),
+                        ("https://swaroopg92.github.io/penpa-edit/#m=edit&p=7VRNb9s", "This link is of a drawing,")):
+        page.open("tents", TENTS)
+        before = page.signs()
+        page.put("#id", given)
+        page.click("#enter")
+        page.until(f"refuses {given}", lambda: page.text("#fault"))
+        tally.true(f"what {given} is: {page.text('#fault')}", page.text("#fault").startswith(said))
+        tally.same("the board stays", page.signs(), before)
 
 
 def behind(page, _, tally):

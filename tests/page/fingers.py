@@ -5,14 +5,15 @@ SOLO = "2x2:1b4i3_2a"  # the rows 1 2 3 4, 3 4 1 2, 2 1 4 3, 4 3 2 1
 NINE = "3x3:b7_8a6g7a6a4e5a2c5e6a2a3a8b1_7b4b8e5e1a9c4b5_4c3b2"
 TENTS = "2x2:_c,0,1,1,0"
 ROW = "5x1:1/1//1/1/2.2"
-FINGER, NUMBER = 44, 40  # pixels: of a control, and the width of a number where nine stand side by side
-PHONES = [(390, 664), (390, 844), (360, 640), (844, 390)]
+SIXTEEN = "4x4:" + "z" * 9 + "v"
+FINGER = 44  # pixels of a control
+PHONES = [(390, 664), (390, 844), (360, 640), (320, 568), (844, 390)]
 CONTROLS = """
     const isSeen = (found) => found.getClientRects().length && !found.closest('details:not([open]) > :not(summary)');
     return [...document.querySelectorAll('button, select, input:not([type=checkbox]), summary, textarea, .box')].filter(isSeen)
       .map((found) => { const { width, height } = found.getBoundingClientRect();
         const name = found.id || found.value || found.textContent;
-        return [name, Math.round(width), Math.round(height), Boolean(found.closest('#pad'))]; });
+        return [name, Math.round(width), Math.round(height)]; });
 """
 OUT = """
     const isOut = (found) => found.scrollWidth > found.clientWidth + 1 || found.scrollHeight > found.clientHeight + 1;
@@ -22,22 +23,46 @@ OUT = """
 
 
 def try_fingers(page, server, tally):
-    for part in (sizes, clue_numbers, german, wrong_forms, newest, ring, asked_twice, sheet, heading):
+    for part in (sizes, numbers, games, clue_numbers, german, wrong_forms, newest, ring, asked_twice, sheet, heading):
         part(page, server, tally)
 
 
 def sizes(page, _, tally):
-    """Each control of a phone has 44 pixels; nine numbers side by side are as wide as the phone lets them."""
+    """Each control of a phone has 44 pixels, the numbers too; nine of them stand in two rows."""
     for wide, high in PHONES:
         page.size(wide, high, is_mobile=True)
-        for game, text in (("solo", NINE), ("pattern", ROW)):
+        for game, text in (("solo", NINE), ("solo", SIXTEEN), ("pattern", ROW)):
             page.open(game, text)
             page.script("for (const found of document.querySelectorAll('details')) found.open = true")
             controls = page.script(CONTROLS)
-            least = lambda is_number: min(NUMBER, (wide - 12) / 9 - 2) if is_number and high < 736 and wide < 480 else FINGER
-            small = [one for one in controls if one[2] < FINGER or one[1] < least(one[3])]
-            tally.same(f"small controls of {game} at {wide}x{high}", small, [])
+            small = [one for one in controls if min(one[1:]) < FINGER]
+            tally.same(f"small controls of {game} {text[:4]} at {wide}x{high}", small, [])
             tally.true(f"controls of {game} at {wide}x{high}", len(controls) > 20)
+    page.size(1280, 800)
+
+
+def numbers(page, _, tally):
+    """Numbers of a phone stand in rows that are alike."""
+    page.size(390, 664)
+    for text, rows in ((NINE, [5, 4]), (SIXTEEN, [8, 8]), (SOLO, [4])):
+        page.open("solo", text)
+        tops = page.script("return [...document.querySelectorAll('#pad button')].map((found) => found.getBoundingClientRect().top)")
+        tally.same(f"rows of the numbers of {text[:4]}", [tops.count(top) for top in sorted(set(tops))], rows)
+    page.size(1280, 800)
+
+
+def games(page, _, tally):
+    """The name of each game is seen whole."""
+    page.size(390, 664)
+    for game in ("solo", "pattern", "lightup", "tents"):
+        page.open(game, {"solo": SOLO, "pattern": ROW, "lightup": "2x2:2c", "tents": TENTS}[game])
+        wide, room = page.script("""
+            const box = document.getElementById('game'), look = getComputedStyle(box);
+            const pen = document.createElement('canvas').getContext('2d');
+            pen.font = `${look.fontSize} ${look.fontFamily}`;
+            const beside = parseFloat(look.paddingLeft) + parseFloat(look.paddingRight) + 24; // and the arrow
+            return [pen.measureText(box.selectedOptions[0].text).width, box.clientWidth - beside];""")
+        tally.true(f"the name of {game}: {wide} of {room}", wide <= room)
     page.size(1280, 800)
 
 

@@ -154,6 +154,10 @@ def forced(page, tally, made):
             tally.true(f"pictures of {game} with forced colours", any(look[2] for look in looks))
         clash = [look for look in looks if look[0] == look[3]]
         tally.same(f"signs of {game} with forced colours", clash, [])
+    page.open("solo", made["solo"])
+    page.click("#notes")
+    rims = page.script("return ['#notes', '#corners'].map((name) => getComputedStyle(document.querySelector(name)).outlineStyle)")
+    tally.same("a pressed button with forced colours", rims, ["solid", "none"])
     media(page)
 
 

@@ -1,7 +1,10 @@
 """`import puzzles`, the answers with types, beside what the program writes."""
 import ast
+import os
 import random
+import sys
 
+import pytest
 
 from support.bench import LETTERS, SOURCES
 from python.test_ids import SIZES, edited, made
@@ -76,6 +79,41 @@ with puzzles.Worker("lightup", budget=2**64 - 1) as worker:
     print(len(found), *set(found))
 """
 CLOCK_WANTED = ["no answer within 0.3 seconds", "one,late,one,late,several", "one True", "one", "20 several"]
+GRADED = """
+for text, answer in puzzles.grade_all(sys.argv[1], sys.stdin.read().splitlines(), budget=50):
+    tell(answer)
+"""
+LATE_GRADE = """
+long = "120x120:" + 553 * "z" + "v"
+for seconds in .5, 4:  # on a busy machine a short one may be late
+    found = [str(answer.verdict) for _, answer in puzzles.grade_all("lightup", ["2x2:2c", long, "2x2:Bc"], budget=2**64 - 1,
+                                                                   seconds=seconds)]
+    if found == ["one", "late", "several"]:
+        break
+print(*found)
+stream = puzzles.grade_all("tents", ["2x2:_c,0,1,1,0"] * 5000)
+print(next(stream)[1].grade)
+stream.close()
+"""
+WRONG_KINDS = """
+for call in (lambda: puzzles.solve("solo", b"2x2:p"), lambda: puzzles.solve("solo", None),
+             lambda: next(puzzles.solve_all("solo", [b"2x2:p"])), lambda: puzzles.solve("solo", "2x2:p", budget=1.5),
+             lambda: next(puzzles.grade_all("chess", ["2x2:p"]))):
+    try:
+        call()
+    except (TypeError, ValueError) as fault:
+        print(fault)
+print(puzzles.check("pattern", "2x2:2/1/2/1", "##\\n#.").verdict)
+"""
+WRONG_KINDS_WANTED = ["an ID or a size is a text (str), and not bytes", "an ID or a size is a text (str), and not NoneType",
+                      "an ID or a size is a text (str), and not bytes", "'float' object cannot be interpreted as an integer",
+                      "'chess' is none of solo, pattern, lightup, tents", "correct"]
+MISSPELT = """
+import puzzles
+puzzles.solve("solo", "2x2:p")
+list(puzzles.grade_all("tents", ["2x2:_c,0,1,1,0"]))
+puzzles.solve("patern", "2x2:2/1/2/1")
+"""
 FAILING = """
 for call in (lambda: puzzles.solve("pattern", "1x1:/"), lambda: next(puzzles.solve_all("pattern", ["1x1:/"]))):
     try:
@@ -139,6 +177,32 @@ def test_hostile(bench):
     assert found == HOSTILE_WANTED, f"{found}, wanted {HOSTILE_WANTED}"
     found = run(bench, CLOCK)
     assert found == CLOCK_WANTED, f"{found}, wanted {CLOCK_WANTED}"
+
+
+def test_graded(bench):
+    """a stream of grades of made and hostile IDs has what `grade` writes for each, in order; a clock ends one alone"""
+    for game, texts in made(bench).items():
+        texts = [*texts[:12], "", " none", texts[0] + "x", *texts[:3], LETTERS * 3000]
+        wanted = [line for text in texts for line in
+                  bench.run([bench.program, "grade", game, "--budget=50", "--", text.strip()[:70_000]]).stdout.splitlines()]
+        found = run(bench, GRADED, game, given="".join(f"{text}\n" for text in texts))
+        assert found == wanted, f"{game}: {next((pair for pair in zip(found, wanted) if pair[0] != pair[1]), len(found))}"
+    assert run(bench, LATE_GRADE) == ["one late several", "local"]
+
+
+def test_wrong_kinds(bench):
+    """what is no text, no whole number or no game is told in words, and a grid may be one text"""
+    assert run(bench, WRONG_KINDS) == WRONG_KINDS_WANTED
+
+
+@pytest.mark.needs("import:mypy")
+def test_misspelt_game(bench):
+    """a checker of types finds a misspelt game, and nothing else"""
+    path = bench.folder / "caller.py"
+    path.write_text(MISSPELT)
+    done = bench.run([sys.executable, "-m", "mypy", "--strict", "--cache-dir", os.devnull, path], MYPYPATH=str(SOURCES))
+    faults = [line for line in done.stdout.splitlines() if "error" in line and "Found" not in line]
+    assert len(faults) == 1 and "'patern'" in faults[0] and ":5:" in faults[0], done.stdout
 
 
 def test_failing(bench):

@@ -37,11 +37,6 @@ TWICE = {  # words with two definitions, and why they still have them: this list
     "has": "the same",
     "back_at": "of a trail, and of planes: the board that a length leads back to",
     "HasRoomFor": "whether words of planes are long enough; whether notes of Solo are",
-    "number_of": "of a line; of a text",
-    "numbered": "the houses of a numbered cell of Light Up; the game of a number",
-    "has_other": "of Solo's sets, and of the rules that the tests make up",
-    "strikes_of": "of a count house, and of the rules that the tests make up",
-    "listed": "what a list of houses is; rules that the tests make up",
 }
 
 

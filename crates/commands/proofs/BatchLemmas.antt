@@ -1,5 +1,5 @@
 -- The steps of a batch, and the chunks of its input.
-use Rattle.commands.proofs.Common.{All, All-nil, All-push, AllowsEach, Answer, Answered, Batched, Begins, BeginsLines, Begun, Bool, Err, Gathered, Given, HasAnswers, Holds, IfErr, IsInput, List, Ok, PutBegun, Ran, Result, Stopped, Text, [], answer_with, ap, append-nil, append_assoc, arith, both, code_of, common_steps, drop, false, get_or, if◌then◌else◌, inl, inr, length, lines, lines_of_parts, max, refl, silence, slice_split, strip_carriage_return, subst, sym, take, take-append-drop, true, true≢false, ℕ, ◌++◌, ◌+◌, ◌<◌, ◌==◌, ◌∙◌, ◌∷◌, ◌≡◌, ◌≤◌, ◌⊎◌}
+use Rattle.commands.proofs.Common.{All, All-append, All-nil, AllowsEach, Answer, Answered, Batched, Begins, BeginsLines, Begun, Bool, Err, Gathered, Given, HasAnswers, HasNoNewline, Holds, IfErr, IsInput, List, Ok, PutBegun, Ran, Result, Stopped, Text, [], answer_with, ap, append-nil, append_assoc, arith, both, code_of, common_steps, drop, false, get_or, if◌then◌else◌, inl, inr, length, lines, lines_of_parts, max, refl, silence, slice_split, strip_carriage_return, subst, sym, take, take-append-drop, true, true≢false, ℕ, ◌++◌, ◌+◌, ◌<◌, ◌==◌, ◌∙◌, ◌∷◌, ◌≡◌, ◌≤◌, ◌⊎◌}
 use Rattle.std.proofs.lemmas.List.Splits.{slice_split_at, slice_split_none, length-slice_split}
 use Rattle.commands.specs.declared.batch.Batch.{Batch}
 use Rattle.commands.specs.declared.ends.Sink as sinks
@@ -48,15 +48,15 @@ module _ {allows : Text → Answer → Type 0} where
         rw (text_is, same) (after_line x g (allowed g.piece g.holds) rest z h);
   }
 
-  pub gathers_byte : {batch next : Batch} {written : Text} (seen : Text) (byte : ℕ) → (byte == 10) ≡ false → Gathered allows batch seen written
-      → ((piece : Text) → Holds batch.line piece → Holds next.line (piece ++ byte ∷ [])) → code_of next.status ≡ code_of batch.status
-      → next.answers.items ≡ batch.answers.items → Gathered allows next (seen ++ byte ∷ []) written
-  gathers_byte seen byte other g holds status same = record {
-    piece = g.piece ++ byte ∷ [];
+  pub gathers_piece : {batch next : Batch} {written : Text} (seen more : Text) → HasNoNewline more → Gathered allows batch seen written
+      → ((piece : Text) → Holds batch.line piece → Holds next.line (piece ++ more)) → code_of next.status ≡ code_of batch.status
+      → next.answers.items ≡ batch.answers.items → Gathered allows next (seen ++ more) written
+  gathers_piece seen more other g holds status same = record {
+    piece = g.piece ++ more;
     holds = holds g.piece g.holds;
-    in_line = All-push (λ x. (x == 10) ≡ false) g.piece byte g.in_line other;
+    in_line = All-append (λ x. (x == 10) ≡ false) g.piece more g.in_line other;
     goes_on = λ rest z h.
-        rw (status, same, append_assoc seen (byte ∷ []) rest) (g.goes_on (byte ∷ rest) z (rw (append_assoc g.piece (byte ∷ []) rest) at h));
+        rw (status, same, append_assoc seen more rest) (g.goes_on (more ++ rest) z (rw (append_assoc g.piece more rest) at h));
   }
 
   -- what was written and what is held begin an answer, when more of the input is known
@@ -149,13 +149,6 @@ module _ {S : Type 0} {takes : S → Text → S → Type 0} {allows : Text → A
 pub on_any_err : {T E : Type 0} (r : Result T E) {P : Type 0} → P → IfErr r (λ _. P)
 on_any_err (Ok x) p = tt
 on_any_err (Err e) p = p
-
--- the bytes up to one more
-pub one_further : (seen chunk : Text) (i : ℕ) → i < length chunk → (seen ++ take i chunk) ++ get_or chunk i 0 ∷ [] ≡ seen ++ take (i + 1) chunk
-one_further seen chunk i h = grind (arith, common_steps, append_assoc)
-
-pub to_the_end : (seen chunk : Text) (i : ℕ) → (seen ++ take i chunk) ++ drop i chunk ≡ seen ++ chunk
-to_the_end seen chunk i = grind (arith, common_steps, append_assoc, take-append-drop)
 
 module _ {I : Type 0} {gives : I → Text → I → Type 0} (gives_both : TakesBoth gives) where
   pub given_more : {from i j : I} {given chunk : Text} {P Q : Text → Type 0} → given ≡ chunk → Given gives from i P

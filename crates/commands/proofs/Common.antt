@@ -8,7 +8,7 @@ pub use Rattle.std.proofs.lemmas.Bool.{and_from, and_parts, cases_Bool, cases_eq
 pub use Rattle.std.proofs.lemmas.Bool.{not-false, not-true}
 pub use Rattle.std.proofs.lemmas.Grind.{common_steps}
 pub use Rattle.std.proofs.lemmas.List.{drop-drop, drop_all, get_or_past, length-map, length-take-le, take-append-drop, take_all}
-pub use Rattle.std.proofs.lemmas.List.Elements.{All-contains, All-nil, All-push}
+pub use Rattle.std.proofs.lemmas.List.Elements.{All-append, All-contains, All-nil}
 pub use Rattle.std.proofs.lemmas.Option.{none-some}
 pub use Rattle.std.proofs.lemmas.Result.{IfOk-weaker, on_err_weaker, on_ok_weaker}
 pub use Rattle.std.specs.List.{All, AllByRecursion, slice_get, slice_split}
@@ -94,7 +94,7 @@ pub use Rattle.commands.specs.Texts.{Given, IsKeptText, text_limit}
 pub use Rattle.commands.specs.TracePieces.{BeginsTrace, KeptOrPut, PutInPieces, PutsTrace, TakesPieces, joined}
 pub use Rattle.commands.specs.Traces.{IsTrace, SaysClosing, visit_line, sweeps_text, visits_text}
 pub use Rattle.commands.specs.declared.answers.reply.Reply.{Reply}
-pub use Rattle.commands.specs.declared.grade.Grade.{Grade}
-pub use Rattle.commands.specs.declared.grade.Grade.TheVariants.{ByRules, BySearch}
-pub use Rattle.commands.specs.declared.grade.GradedRules.{GradedRules}
-pub use Rattle.commands.specs.declared.grade.GradedRules.TheVariants.{Crossings, Houses, Lines, Local, Singles}
+pub use Rattle.commands.specs.declared.grade.grades.Grade.{Grade}
+pub use Rattle.commands.specs.declared.grade.grades.Grade.TheVariants.{ByRules, BySearch}
+pub use Rattle.commands.specs.declared.grade.grades.GradedRules.{GradedRules}
+pub use Rattle.commands.specs.declared.grade.grades.GradedRules.TheVariants.{Crossings, Houses, Lines, Local, Singles}

@@ -10,7 +10,7 @@ use Rattle.commands.specs.Grades.{IsRightGrade, NamedRules, SaysGrade, last_trie
 use Rattle.commands.specs.Makings.{MadePuzzle, Wanted, exhausted_answer, made_answer, seed_stream}
 use Rattle.commands.specs.PuzzleFacts.{GameFacts, PuzzleFacts, printed_by}
 use Rattle.commands.specs.Replies.{IsRefused, refused_words, verdict_answer}
-use Rattle.commands.specs.declared.grade.GradeOptions.{GradeOptions}
+use Rattle.commands.specs.declared.grade.grades.GradeOptions.{GradeOptions}
 
 -- the text spells that puzzle, and the answer is allowed for it
 pub record IsAnswered {P : Type 0} (spells : P → Type 0) (allows : P → Answer → Type 0)

@@ -51,6 +51,10 @@ RanLines source sink task old_input new_input old_output new_output result = Ran
 abbrev pub unput : Batch → Text
 unput batch = batch.answers.items
 
+-- a piece of a line
+abbrev pub HasNoNewline : Text → Type 0
+HasNoNewline piece = All (λ b. (b == 10) ≡ false) piece
+
 -- After these bytes of the input so much was written: with the answers that the batch holds, those to
 -- all lines that ended. What came since is held: whatever follows, the rest of the answer is that to
 -- what is held and what follows.
@@ -58,7 +62,7 @@ pub record Gathered (allows : Text → Answer → Type 0) (batch : Batch) (seen 
     : Type 0 where
   pub piece : Text
   pub holds : Holds batch.line piece
-  pub in_line : All (λ b. (b == 10) ≡ false) piece
+  pub in_line : HasNoNewline piece
   pub goes_on : (rest : Text) (z : Answer) → AllowsEach allows (lines (piece ++ rest)) z
       → AllowsEach allows (lines (seen ++ rest))
       (both (answer_with (written ++ batch.answers.items) (code_of batch.status)) z)

@@ -6,10 +6,10 @@ use Rattle.commands.specs.Common.{RuleSystem, is_settled, Outcome, verdict_of, w
 use Rattle.commands.specs.Answers.{Answer, Text, code_of}
 use Rattle.commands.specs.Traces.{IsTrace}
 use Rattle.commands.specs.declared.answers.status.Status.TheVariants as status
-use Rattle.commands.specs.declared.grade.Grade.{Grade}
-use Rattle.commands.specs.declared.grade.Grade.TheVariants as grade
-use Rattle.commands.specs.declared.grade.GradedRules.{GradedRules}
-use Rattle.commands.specs.declared.grade.GradedRules.TheVariants.{Singles, Houses, Crossings, Lines, Local}
+use Rattle.commands.specs.declared.grade.grades.Grade.{Grade}
+use Rattle.commands.specs.declared.grade.grades.Grade.TheVariants as grade
+use Rattle.commands.specs.declared.grade.grades.GradedRules.{GradedRules}
+use Rattle.commands.specs.declared.grade.grades.GradedRules.TheVariants.{Singles, Houses, Crossings, Lines, Local}
 
 -- by a verdict, where the whole walk has so many trials
 abbrev pub grade_by : ℕ → Outcome → Grade

@@ -19,8 +19,8 @@ use Rattle.commands.specs.CheckAnswers.{checked, without_returns}
 use Rattle.commands.specs.Replies.{gave_up_answer, one_answer, several_answer}
 use Rattle.commands.specs.Grades.{NamedRules, rule_set_text}
 use Rattle.commands.specs.declared.answers.status.Status.TheVariants.{Fine, Wrong, Several, GaveUp}
-use Rattle.commands.specs.declared.grade.GradedRules.{GradedRules}
-use Rattle.commands.specs.declared.grade.GradedRules.TheVariants.{Singles, Houses, Crossings, Lines, Local}
+use Rattle.commands.specs.declared.grade.grades.GradedRules.{GradedRules}
+use Rattle.commands.specs.declared.grade.grades.GradedRules.TheVariants.{Singles, Houses, Crossings, Lines, Local}
 use Rattle.commands.specs.Makings.{made_answer}
 
 -- the first text spells a puzzle, and the second is the ID that is written for it

@@ -11,7 +11,7 @@ use Rattle.commands.specs.Answers.{Text}
 use Rattle.commands.specs.CheckAnswers.{SaysFault, place_text}
 use Rattle.commands.specs.Grades.{only_set}
 use Rattle.commands.specs.PuzzleFacts.{PuzzleFacts}
-use Rattle.commands.specs.declared.grade.GradedRules.TheVariants.{Local}
+use Rattle.commands.specs.declared.grade.grades.GradedRules.TheVariants.{Local}
 
 abbrev pub light_fault : Light → LightFault → Text
 light_fault p (light.Black place) = codes "black " ++ place_text p.size.w place

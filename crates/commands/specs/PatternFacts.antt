@@ -11,7 +11,7 @@ use Rattle.commands.specs.Answers.{Text}
 use Rattle.commands.specs.CheckAnswers.{SaysFault}
 use Rattle.commands.specs.Grades.{only_set}
 use Rattle.commands.specs.PuzzleFacts.{PuzzleFacts}
-use Rattle.commands.specs.declared.grade.GradedRules.TheVariants.{Lines}
+use Rattle.commands.specs.declared.grade.grades.GradedRules.TheVariants.{Lines}
 
 abbrev pub pattern_fault : PatternFault → Text
 pattern_fault (pattern.Column x) = codes "column " ++ decimal x

@@ -14,7 +14,7 @@ use Rattle.commands.specs.CheckAnswers.{SaysFault, place_text}
 use Rattle.commands.specs.Grades.{NamedRules, only_set}
 use Rattle.commands.specs.Makings.{IsUnfilled}
 use Rattle.commands.specs.PuzzleFacts.{PuzzleFacts}
-use Rattle.commands.specs.declared.grade.GradedRules.TheVariants.{Crossings, Houses, Singles}
+use Rattle.commands.specs.declared.grade.grades.GradedRules.TheVariants.{Crossings, Houses, Singles}
 
 abbrev pub solo_fault : Solo → SoloFault → Text
 solo_fault p (solo.Given place) = codes "given " ++ place_text (solo_n p) place

@@ -13,7 +13,7 @@ use Rattle.commands.specs.Answers.{Text}
 use Rattle.commands.specs.CheckAnswers.{SaysFault, place_text}
 use Rattle.commands.specs.Grades.{only_set}
 use Rattle.commands.specs.PuzzleFacts.{PuzzleFacts}
-use Rattle.commands.specs.declared.grade.GradedRules.TheVariants.{Local}
+use Rattle.commands.specs.declared.grade.grades.GradedRules.TheVariants.{Local}
 
 abbrev pub tent_fault : Tents → TentFault → Text
 tent_fault p (tent.Tree place) = codes "tree " ++ place_text p.size.w place

@@ -14,7 +14,7 @@ use Rattle.commands.specs.declared.answers.status.Status.{Status}
 use Rattle.commands.specs.declared.answers.status.Stop.{Stop}
 use Rattle.commands.specs.declared.ends.Sink as sinks
 use Rattle.commands.specs.declared.grade.Attempt.{Attempt}
-use Rattle.commands.specs.declared.grade.Grade.{Grade}
+use Rattle.commands.specs.declared.grade.grades.Grade.{Grade}
 use Rattle.commands.specs.declared.grade.trace.TheConstants.{MAX_LINE, FULL_PIECE}
 
 -- the grade by the rules that are tried, the last in the list, and else by a search with its own

@@ -1,7 +1,7 @@
 //! Many IDs, one a line.
-ghost use Rattle.std.specs.Prelude.{◌≡◌, ◌≤◌, ◌∷◌, ◌++◌, [], true, false, IfOk, IfErr, OnErr, OnOk};
+ghost use Rattle.std.specs.Prelude.{◌≡◌, ◌≤◌, ◌∷◌, ◌++◌, [], true, false, IfOk, IfErr, MatchOption, OnErr, OnOk};
 ghost use Rattle.commands.specs.Answers.{PutBegun, Text, IsGreater};
-ghost use Rattle.commands.specs.Batches.{EndsIn, EndsWith, GathersAll, GathersOn, GathersUpTo, BatchGoesOn, StopsIn, StopsReading, TakesTask, AllowsTask, Holds, IsInputLine, RanLines, unput};
+ghost use Rattle.commands.specs.Batches.{EndsIn, EndsWith, GathersAll, GathersOn, GathersUpTo, BatchGoesOn, HasNoNewline, StopsIn, StopsReading, TakesTask, AllowsTask, Holds, IsInputLine, RanLines, unput};
 ghost use Rattle.commands.specs.Replies.{answer_in};
 ghost use Rattle.commands.specs.Runs.{AreNew, call_limit};
 ghost use Rattle.commands.specs.Stops.{LeavesEnds, StopsWith, is_broken_end};
@@ -10,7 +10,7 @@ ghost use Rattle.commands.specs.declared.answers.status.Status.TheVariants.{Fine
 use crate::answers::reply::{Reply, id_refused};
 use crate::answers::status::{RunResult, Status, Stop};
 use crate::ends::output::put_all;
-use crate::ends::text::ReadText;
+use crate::ends::text::{LINE_LIMIT, ReadText};
 use crate::ends::{CALL_LIMIT, CHUNK, Sink, Source};
 use crate::games::Stores;
 use crate::solve::Task;
@@ -27,6 +27,15 @@ pub struct Batch {
     text: String,
     answers: Vec<u8>,
     status: Status,
+}
+
+/// The bytes before the first newline and those behind it, if there is one.
+fn split_line(bytes: &[u8]) -> Option<(&[u8], &[u8])>
+    ensures { MatchOption result (HasNoNewline bytes.now)
+        (λ r. HasNoNewline r.0.now × (bytes.now ≡ r.0.now ++ 10 ∷ r.1.now)) }
+{
+    let end = bytes.iter().position(|byte| *byte == b'\n')?;
+    Some((&bytes[..end], &bytes[end + 1..]))
 }
 
 /// The answer to a line, or to an over-long one, in the memory of a text.
@@ -106,27 +115,18 @@ impl Batch {
         Ok(())
     }
 
-    /// Takes one byte of the input.
-    fn take_byte(&mut self, alloc: Global, task: Task, byte: u8) -> Result<(), AllocError>
-        ensures goes_on { OnOk result (GathersOn task self.old self.new (byte ∷ [])) }
-        ensures stays { OnErr result (unput self.new ≡ unput self.old) }
-    {
-        if byte == b'\n' {
-            return self.answer_line(alloc, task);
-        }
-        self.line.push(byte)?;
-        Ok(())
-    }
-
     /// Takes bytes of the input.
     fn take_bytes(&mut self, alloc: Global, task: Task, bytes: &[u8]) -> Result<(), AllocError>
         ensures goes_on { OnOk result (GathersOn task self.old self.new bytes.now) }
         ensures up_to { GathersUpTo task self.old self.new bytes.now }
     {
-        for byte in bytes {
-            self.take_byte(alloc, task, *byte)?;
+        let mut rest = bytes;
+        while let Some((line, more)) = split_line(rest) {
+            self.line.take(LINE_LIMIT, line)?;
+            self.answer_line(alloc, task)?;
+            rest = more;
         }
-        Ok(())
+        self.line.take(LINE_LIMIT, rest)
     }
 
     /// Takes a chunk of the input, and puts the answers to the lines that ended in it: also those

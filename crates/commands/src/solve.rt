@@ -70,8 +70,30 @@ fn verdict_reply<P: Printed, R: Searchable>(
 }
 
 /// The answer that tells the verdict of a search by the rules, in the memory of a text. The search
-/// works in the store that is kept, if that fits. If not, it works in a new one, which is kept then
-/// unless the old one is roomier.
+/// works in a new store, which is kept then unless the old one is roomier. It isn't inlined, since
+/// its large local would be cleared for each line.
+#[inline(never)]
+fn reply_in_new_store<P: Printed, R: Searchable>(
+    alloc: Global,
+    kept: &mut Option<Store<R>>,
+    puzzle: &P,
+    rules: &R,
+    budget: u64,
+    text: String,
+) -> Result<Reply, AllocError>
+    requires cells { (R.system rules.now).cells ≡ cells_in (P.extent puzzle.now) }
+    requires values { (R.system rules.now).values ≡ P.value_count puzzle.now }
+    ensures answer { IfOk result
+        (SaysVerdict P.Printed puzzle.now (R.system rules.now) budget) }
+    ensures right { IfOk result (λ _. HasTrueVerdict (R.system rules.now) budget) }
+{
+    let mut made = Store::new(alloc, rules)?;
+    let reply = verdict_reply(&mut made, puzzle, rules, budget, text)?;
+    keep_roomier(kept, made);
+    Ok(reply)
+}
+
+/// The same, in the store that is kept if that fits, else in a new one.
 fn searched_reply<P: Printed, R: Searchable>(
     alloc: Global,
     kept: &mut Option<Store<R>>,
@@ -91,10 +113,7 @@ fn searched_reply<P: Printed, R: Searchable>(
             return verdict_reply(store, puzzle, rules, budget, text);
         }
     }
-    let mut made = Store::new(alloc, rules)?;
-    let reply = verdict_reply(&mut made, puzzle, rules, budget, text)?;
-    keep_roomier(kept, made);
-    Ok(reply)
+    reply_in_new_store(alloc, kept, puzzle, rules, budget, text)
 }
 
 /// The answer to an ID that is to be solved, as `solve_id` says.

@@ -11,8 +11,8 @@ pairs = (0 ∷ 1 ∷ []) ∷ (1 ∷ 2 ∷ []) ∷ []
 abbrev pub are_apart : List ℕ → Bool
 are_apart g = not (slice_index g 0 == slice_index g 1) && not (slice_index g 1 == slice_index g 2)
 
-abbrev pub listed : RuleSystem
-listed = record {
+abbrev pub listed_rules : RuleSystem
+listed_rules = record {
   cells = 3;
   values = 2;
   houses = 2;

@@ -8,7 +8,7 @@ use Rattle.grid_core.proofs.GridLemmas.{all-within, single-all}
 use Rattle.engine_core.specs.HouseList.{scope_of}
 use Rattle.engine_core.specs.HouseSets.{AreDifferent}
 use Rattle.engine_core.specs.RuleSystem.{IsLawful, has_place, share}
-use Rattle.core_tests.specs.Listed.{listed, pairs}
+use Rattle.core_tests.specs.Listed.{listed_rules, pairs}
 use Rattle.core_tests.specs.NeighboursLaws.{again, pair-cases, pair-different, sum_few}
 
 -- each house has two neighbours
@@ -24,7 +24,7 @@ below : (h c : ℕ) → h < 2 → has_place (scope_of pairs h) c ≡ true → c 
 below h c lt member =
     elim (pair-cases h c (subst (λ s. has_place s c ≡ true) (scope-is h lt) member)) [ inl e ↦ omega (arith, lt, e) | inr e ↦ omega (arith, lt, e) ]
 
-pub listed-lawful : IsLawful listed
+pub listed-lawful : IsLawful listed_rules
 unfolding share
 listed-lawful = record {
   strikes_inside = λ h K L lt inside c v on. absurd (true≢false (sym on));

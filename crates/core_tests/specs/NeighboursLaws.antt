@@ -7,7 +7,7 @@ use Rattle.grid_core.proofs.BoardLemmas.{all_below-at, any_below-here, any_below
 use Rattle.grid_core.proofs.GridLemmas.{all-within, only-has, only-inside, single-all, single-at, single-is}
 use Rattle.engine_core.specs.RuleSystem.{IsLawful, after, has_place, share}
 use Rattle.engine_core.specs.HouseSets.{AreDifferent}
-use Rattle.core_tests.specs.Neighbours.{neighbours, has_other, strikes_of, is_row}
+use Rattle.core_tests.specs.Neighbours.{neighbours, neighbour_has_other, neighbour_strikes, is_row}
 use Rattle.std.proofs.lemmas.Grind.{common_steps}
 
 -- ---- the two cells of a house
@@ -37,48 +37,48 @@ sum_few f most zero few = omega arith
 sum_few f most (suc n) few = let rest = sum_few f most n few in let here = few n in omega arith
 
 -- ---- what a house strikes
-pub other-here : (n : ℕ) (set : ℕ → Bool) (v u : ℕ) → u < n → (u ≡ v → ⊥) → set u ≡ true → has_other n set v ≡ true
-unfolding has_other
+pub other-here : (n : ℕ) (set : ℕ → Bool) (v u : ℕ) → u < n → (u ≡ v → ⊥) → set u ≡ true → neighbour_has_other n set v ≡ true
+unfolding neighbour_has_other
 other-here n set v u lt ne on =
     any_below-here (λ w. not (eqb w v) && set w) n u lt (and_from _ _ (not_from_false _ (ne_eqb u v ne)) on)
 
-pub other-some : (n : ℕ) (set : ℕ → Bool) (v : ℕ) → has_other n set v ≡ true
+pub other-some : (n : ℕ) (set : ℕ → Bool) (v : ℕ) → neighbour_has_other n set v ≡ true
     → (u : ℕ) × (u < n) × (u ≡ v → ⊥) × (set u ≡ true)
-unfolding has_other
+unfolding neighbour_has_other
 other-some n set v on =
     let w = any_below-some (λ u. not (eqb u v) && set u) n on in
     let both = and_parts (not (eqb w.0 v)) (set w.0) w.2 in
     (w.0, w.1, eqb-false _ _ (not-true _ both.0), both.1)
 
 -- a cell that is struck, and the cell beside it has no other value
-pub struck : (n h : ℕ) (K : Candidates) (c v : ℕ) → strikes_of n h K c v ≡ true
-    → ((c ≡ h) × (has_other n (K (h + 1)) v ≡ false)) ⊎ ((c ≡ h + 1) × (has_other n (K h) v ≡ false))
-unfolding strikes_of
+pub struck : (n h : ℕ) (K : Candidates) (c v : ℕ) → neighbour_strikes n h K c v ≡ true
+    → ((c ≡ h) × (neighbour_has_other n (K (h + 1)) v ≡ false)) ⊎ ((c ≡ h + 1) × (neighbour_has_other n (K h) v ≡ false))
+unfolding neighbour_strikes
 struck n h K c v on = grind (arith, common_steps)
 
-pub struck-first : (n h : ℕ) (K : Candidates) (v : ℕ) → has_other n (K (h + 1)) v ≡ false → strikes_of n h K h v ≡ true
-unfolding strikes_of
+pub struck-first : (n h : ℕ) (K : Candidates) (v : ℕ) → neighbour_has_other n (K (h + 1)) v ≡ false → neighbour_strikes n h K h v ≡ true
+unfolding neighbour_strikes
 struck-first n h K v none = grind (arith, common_steps, eq-eqb h h refl)
 
-pub struck-second : (n h : ℕ) (K : Candidates) (v : ℕ) → has_other n (K h) v ≡ false → strikes_of n h K (h + 1) v ≡ true
-unfolding strikes_of
+pub struck-second : (n h : ℕ) (K : Candidates) (v : ℕ) → neighbour_has_other n (K h) v ≡ false → neighbour_strikes n h K (h + 1) v ≡ true
+unfolding neighbour_strikes
 struck-second n h K v none = grind (arith, common_steps, eq-eqb (h + 1) (h + 1) refl)
 
 fewer : (n : ℕ) (small large : ℕ → Bool) (v : ℕ) → ((u : ℕ) → small u ≡ true → large u ≡ true)
-    → has_other n large v ≡ false → has_other n small v ≡ false
+    → neighbour_has_other n large v ≡ false → neighbour_has_other n small v ≡ false
 fewer n small large v inside none = false_from_ne_true _ (λ on.
     let w = other-some n small v on in true≢false (sym (other-here n large v w.0 w.1 w.2 (inside w.0 w.3)) ∙ none))
 
 -- of two neighbours that keep a value each, the second has another one after the visit, and so has the first
-left-first : (n h : ℕ) (K : Candidates) (v : ℕ) → v < n → K h v ≡ true → strikes_of n h K h v ≡ false
-    → has_other n (λ u. K (h + 1) u && not (strikes_of n h K (h + 1) u)) v ≡ true
+left-first : (n h : ℕ) (K : Candidates) (v : ℕ) → v < n → K h v ≡ true → neighbour_strikes n h K h v ≡ false
+    → neighbour_has_other n (λ u. K (h + 1) u && not (neighbour_strikes n h K (h + 1) u)) v ≡ true
 left-first n h K v lt on stays =
-    grind (arith, common_steps, other-some n (K (h + 1)) v, other-here n (λ u. K (h + 1) u && not (strikes_of n h K (h + 1) u)) v, λ (u : ℕ). other-here n (K h) u v lt, λ (u : ℕ). struck n h K (h + 1) u, struck-first n h K v)
+    grind (arith, common_steps, other-some n (K (h + 1)) v, other-here n (λ u. K (h + 1) u && not (neighbour_strikes n h K (h + 1) u)) v, λ (u : ℕ). other-here n (K h) u v lt, λ (u : ℕ). struck n h K (h + 1) u, struck-first n h K v)
 
-left-second : (n h : ℕ) (K : Candidates) (v : ℕ) → v < n → K (h + 1) v ≡ true → strikes_of n h K (h + 1) v ≡ false
-    → has_other n (λ u. K h u && not (strikes_of n h K h u)) v ≡ true
+left-second : (n h : ℕ) (K : Candidates) (v : ℕ) → v < n → K (h + 1) v ≡ true → neighbour_strikes n h K (h + 1) v ≡ false
+    → neighbour_has_other n (λ u. K h u && not (neighbour_strikes n h K h u)) v ≡ true
 left-second n h K v lt on stays =
-    grind (arith, common_steps, other-some n (K h) v, other-here n (λ u. K h u && not (strikes_of n h K h u)) v, λ (u : ℕ). other-here n (K (h + 1)) u v lt, λ (u : ℕ). struck n h K h u, struck-second n h K v)
+    grind (arith, common_steps, other-some n (K h) v, other-here n (λ u. K h u && not (neighbour_strikes n h K h u)) v, λ (u : ℕ). other-here n (K (h + 1)) u v lt, λ (u : ℕ). struck n h K h u, struck-second n h K v)
 
 -- ---- solutions
 row-parts : (houses : ℕ) (g : List ℕ) → is_row houses g ≡ true
@@ -110,8 +110,8 @@ neighbours-lawful queue cells values two few_cells some few_values = record {
   settles = λ settled h K c v lt low on.
       let both = and_parts (K c v) _ on in
       false_from_ne_true _ (λ s. elim (struck values h (after (neighbours queue cells values) h K) c v s) [
-        | inl w ↦ true≢false (sym (left-first values h K v low (ap (λ d. K d v) (sym w.0) ∙ both.0) (ap (λ d. strikes_of values h K d v) (sym w.0) ∙ not-true _ both.1)) ∙ w.1)
-        | inr w ↦ true≢false (sym (left-second values h K v low (ap (λ d. K d v) (sym w.0) ∙ both.0) (ap (λ d. strikes_of values h K d v) (sym w.0) ∙ not-true _ both.1)) ∙ w.1)
+        | inl w ↦ true≢false (sym (left-first values h K v low (ap (λ d. K d v) (sym w.0) ∙ both.0) (ap (λ d. neighbour_strikes values h K d v) (sym w.0) ∙ not-true _ both.1)) ∙ w.1)
+        | inr w ↦ true≢false (sym (left-second values h K v low (ap (λ d. K d v) (sym w.0) ∙ both.0) (ap (λ d. neighbour_strikes values h K d v) (sym w.0) ∙ not-true _ both.1)) ∙ w.1)
       ]);
   bound_of_queue = λ e.
       let few = sum_few (λ c. (values - 1) * (count_below (λ h. has_place (h ∷ (h + 1) ∷ []) c) (cells - 1) - 1)) (values - 1) cells

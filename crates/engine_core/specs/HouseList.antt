@@ -4,7 +4,7 @@ use Rattle.std.specs.List.{between, range_with_len}
 use Rattle.grid_core.specs.Pieces.{AreEnds, last_end, pieces}
 use Rattle.engine_core.specs.RuleSystem.{RuleSystem, has_place}
 use Rattle.engine_core.specs.HouseSets.{AreBelow, AreDifferent}
-use Rattle.engine_core.specs.Sets.{is_waiting, words_of}
+use Rattle.engine_core.specs.Sets.{AreWokenAt, is_waiting, words_of}
 use Rattle.engine_core.specs.HouseRules.{House}
 
 -- Lists of places, one after another in one list.
@@ -85,6 +85,14 @@ HasWordsAt words places marks = (k : ℕ) → k < length places → slice_index 
 -- what is marked in the words is marked too
 abbrev pub AreMarkedToo : List ℕ → List ℕ → List ℕ → Type 0
 AreMarkedToo marks old new = (j : ℕ) → j / 64 < length marks → is_waiting new j ≡ (is_waiting old j || is_waiting marks j)
+
+-- the marks of all places, of so many words each: where those of a place are joined to others, its houses are woken
+pub record AreMarksOf (p : RuleSystem) (words : ℕ) (marks : List ℕ) : Type 0 where
+  pub as_many : words ≡ words_of p.houses
+  pub fit : (place : ℕ) → place < p.cells → place * words + words ≤ length marks
+  pub wake : (place : ℕ) (before now : List ℕ) → place < p.cells
+      → AreMarkedToo (between (place * words) (place * words + words) marks) before now
+      → AreWokenAt p place before now
 
 -- the house was marked at each of the places
 pub record HasMarked (words house : ℕ) (places old new : List ℕ) : Type 0 where

@@ -3,9 +3,10 @@
 
 ghost use Rattle.std.specs.Prelude.{◌<◌, ◌≡◌, ◌≤◌, IfOk, false, length, true};
 ghost use Rattle.engine_core.specs.Common.{AreWokenAt, HasSetRoom, HasStruck, IsBoardOf, IsFiltered, SameShape, StillServes, after, has, needs_of, table_of, words_of};
+ghost use Rattle.engine_core.specs.HouseList.{AreMarksOf};
 ghost use Rattle.engine_core.specs.declared.mode.Mode.TheVariants.{Queue};
 
-use crate::houses::table::{HouseTable, join_marks};
+use crate::houses::table::{HouseTable, join_place};
 use crate::houses::visit::{apply, gather};
 use crate::mode::Mode;
 use crate::notes::Noted;
@@ -117,13 +118,21 @@ impl<S: RuleSet> HouseRules<S> {
         self.table.list.places(house)
     }
 
+    /// The marks of the houses that have each place, and how many words a place has.
+    pub(crate) fn marks(&self) -> (&[u64], usize)
+        ensures { AreMarksOf (S.system (S.puzzle_of self.now.set)) result.1 result.0.now }
+    {
+        self.table.marks()
+    }
+
     /// Marks the houses that have the place.
     pub(crate) fn wake(&self, place: usize, waits: &mut [u64])
         requires place_in { place < (S.system (S.puzzle_of self.now.set)).cells }
         requires room { words_of (S.system (S.puzzle_of self.now.set)).houses ≤ length waits.old }
         ensures { AreWokenAt (S.system (S.puzzle_of self.now.set)) place waits.old waits.new }
     {
-        join_marks(waits, self.table.marks_at(place));
+        let (marks, words) = self.marks();
+        join_place(waits, marks, words, place);
     }
 }
 

@@ -10,4 +10,4 @@ pub use Rattle.commands.specs.Allowed.{Allows}
 pub use Rattle.puzzles.specs.CommandLine.{IsApp, bare_app, puzzles_app, unless_fault}
 unfoldable pub use Rattle.puzzles.specs.CommandLine.{parsed}
 pub use Rattle.puzzles.specs.Requests.{asked_by_rows, asked_in, is_number}
-unfoldable pub use Rattle.puzzles.specs.Requests.{asked_of, number_of}
+unfoldable pub use Rattle.puzzles.specs.Requests.{asked_of, number_in}

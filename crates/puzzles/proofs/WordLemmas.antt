@@ -1,5 +1,5 @@
 -- Commands, and what words mean.
-use Rattle.puzzles.proofs.Common.{App, Bool, Bor, HasMatchesOf, IsApp, List, None, Option, Rule, Some, Text, [], ap, app_of, ap₂, arith, false, if◌then◌else◌, inl, inr, is_number, is_simple, length, lt-ltb, ltb-true, nat_le, nat_lt, number_of, parsed, puzzles_app, refl, rule_of, slice_index, subcommand_of, subcommand_rows_of, subst, sym, true, unless_fault, with_rule, with_subcommand, ℕ, ◌&&◌, ◌<◌, ◌^◌, ◌∙◌, ◌∷◌, ◌≡◌, ◌≤◌, ◌⊎◌}
+use Rattle.puzzles.proofs.Common.{App, Bool, Bor, HasMatchesOf, IsApp, List, None, Option, Rule, Some, Text, [], ap, app_of, ap₂, arith, false, if◌then◌else◌, inl, inr, is_number, is_simple, length, lt-ltb, ltb-true, nat_le, nat_lt, number_in, parsed, puzzles_app, refl, rule_of, slice_index, subcommand_of, subcommand_rows_of, subst, sym, true, unless_fault, with_rule, with_subcommand, ℕ, ◌&&◌, ◌<◌, ◌^◌, ◌∙◌, ◌∷◌, ◌≡◌, ◌≤◌, ◌⊎◌}
 use Rattle.clap.specs.Built.{AddsArg, AddsSubcommand}
 use Rattle.clap.specs.declared.builder.arg.Arg.{Arg}
 use Rattle.clap.specs.declared.builder.command.Command.{Command}
@@ -78,20 +78,20 @@ parsed_err a words e is fails other = elim (fails (ap is_simple_and_free is ∙ 
 abbrev if_number : ℕ → List ℕ → Bool → Option ℕ
 if_number most bs b = if b then Some (digits_value 10 bs) else None
 
-fails : (most : ℕ) (bs : List ℕ) → is_number bs ≡ false → number_of most bs ≡ None
-unfolding number_of
+fails : (most : ℕ) (bs : List ℕ) → is_number bs ≡ false → number_in most bs ≡ None
+unfolding number_in
 fails most bs e = ap (λ b. if_number most bs (b && nat_le (digits_value 10 bs) most)) e
 
 and_false : (a : Bool) → (a && false) ≡ false
 and_false true = refl
 and_false false = refl
 
-above : (most : ℕ) (bs : List ℕ) → most < digits_value 10 bs → number_of most bs ≡ None
-unfolding number_of
+above : (most : ℕ) (bs : List ℕ) → most < digits_value 10 bs → number_in most bs ≡ None
+unfolding number_in
 above most bs below = grind (arith, common_steps, and_false, leb-true, nat_le)
 
-within : (most : ℕ) (bs : List ℕ) → is_number bs ≡ true → digits_value 10 bs ≤ most → number_of most bs ≡ Some (digits_value 10 bs)
-unfolding number_of
+within : (most : ℕ) (bs : List ℕ) → is_number bs ≡ true → digits_value 10 bs ≤ most → number_in most bs ≡ Some (digits_value 10 bs)
+unfolding number_in
 within most bs e h = ap (λ b. if_number most bs (b && nat_le (digits_value 10 bs) most)) e ∙ ap (if_number most bs) (le-leb (digits_value 10 bs) most h)
 
 digits_pass : (ds : List ℕ) → AllDigits 10 ds → list_all (λ d. nat_lt (digit_value d) 10) ds ≡ true
@@ -117,22 +117,22 @@ no_plus [] h = refl
 no_plus (b ∷ bs) h = rw (ne_eqb b 43 h) refl
 
 -- an empty text and a plus are no number
-pub number-none : (most : ℕ) (bs : List ℕ) → (length bs ≡ 0) ⊎ (slice_index bs 0 ≡ 43) → number_of most bs ≡ None
+pub number-none : (most : ℕ) (bs : List ℕ) → (length bs ≡ 0) ⊎ (slice_index bs 0 ≡ 43) → number_in most bs ≡ None
 number-none most bs either = grind (arith, common_steps, and_false, fails, nat_lt)
 
 pub number-read : (most v : ℕ) (bs : List ℕ) → (slice_index bs 0 ≡ 43 → ⊥) → IsNumeral 10 (without_leading_plus bs)
-    → v ≡ digits_value 10 (without_leading_plus bs) → v ≤ most → Some v ≡ number_of most bs
+    → v ≡ digits_value 10 (without_leading_plus bs) → v ≤ most → Some v ≡ number_in most bs
 number-read most v bs not_so numeral same at_most = grind (arith, common_steps, no_plus, numeral_passes, within)
 
 pub number-high : (most v : ℕ) (bs : List ℕ) → (slice_index bs 0 ≡ 43 → ⊥)
-    → v ≡ digits_value 10 (without_leading_plus bs) → most < v → None ≡ number_of most bs
+    → v ≡ digits_value 10 (without_leading_plus bs) → most < v → None ≡ number_in most bs
 number-high most v bs not_so same below = grind (arith, common_steps, above, no_plus)
 
 pub number-failed : (most : ℕ) (bs : List ℕ) → (slice_index bs 0 ≡ 43 → ⊥)
-    → (IsNumeral 10 (without_leading_plus bs) × (digits_value 10 (without_leading_plus bs) < 2 ^ 64) → ⊥) → most < 2 ^ 64 → None ≡ number_of most bs
+    → (IsNumeral 10 (without_leading_plus bs) × (digits_value 10 (without_leading_plus bs) < 2 ^ 64) → ⊥) → most < 2 ^ 64 → None ≡ number_in most bs
 number-failed most bs h p small = go (is_number bs) refl
   where
-    go : (b : Bool) → is_number bs ≡ b → None ≡ number_of most bs
+    go : (b : Bool) → is_number bs ≡ b → None ≡ number_in most bs
     go false is = sym (fails most bs is)
     go true is = elim (leb_tells (2 ^ 64) (digits_value 10 bs)) [
       | inl high ↦ let over : most < digits_value 10 bs = omega (arith, high.1) in sym (above most bs over)

@@ -20,14 +20,14 @@ abbrev pub is_number : List ℕ → Bool
 is_number text = nat_lt 0 (length text) && list_all (λ d. nat_lt (digit_value d) 10) text
 
 -- the number that the text writes, up to a limit
-unfoldable pub number_of : ℕ → List ℕ → Option ℕ
-number_of most text = if is_number text && nat_le (digits_value 10 text) most
+unfoldable pub number_in : ℕ → List ℕ → Option ℕ
+number_in most text = if is_number text && nat_le (digits_value 10 text) most
     then Some (digits_value 10 text) else None
 
 -- the same, or a number that stands in its place where there is no text
 abbrev pub number_or : ℕ → ℕ → Option (List ℕ) → Option ℕ
 number_or otherwise most None = Some otherwise
-number_or otherwise most (Some text) = number_of most text
+number_or otherwise most (Some text) = number_in most text
 
 -- a text in memory
 abbrev pub lent : Option (Bor (List ℕ)) → Option (List ℕ)
@@ -73,7 +73,7 @@ black_for None (Some text) = None
 
 -- 0 to 18,446,744,073,709,551,615
 abbrev pub seed_in : List Row → Option ℕ
-seed_in rows = option_and_then (number_of 18446744073709551615) (first_of (codes "seed") rows)
+seed_in rows = option_and_then (number_in 18446744073709551615) (first_of (codes "seed") rows)
 
 -- 0 to 4,294,967,295, and 1,000 where nothing is said
 abbrev pub tries_in : List Row → Option ℕ

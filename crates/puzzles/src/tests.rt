@@ -6,5 +6,6 @@ mod grades;
 mod makings;
 mod rows;
 mod runs;
+mod solutions;
 mod traces;
 mod words;

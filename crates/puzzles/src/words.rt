@@ -1,7 +1,7 @@
 //! What the words of a command line ask for.
 #![tactic(auto, using(crate::proofs::WordLemmas::word_laws))]
 
-ghost use Rattle.puzzles.specs.Requests.{number_of, number_or, asked_in, game_in, budget_in, solve_in, check_in, trace_in, grade_in, seed_in, tries_in, black_in, generate_in, asked_by_rows, asked_of, lent};
+ghost use Rattle.puzzles.specs.Requests.{number_in, number_or, asked_in, game_in, budget_in, solve_in, check_in, trace_in, grade_in, seed_in, tries_in, black_in, generate_in, asked_by_rows, asked_of, lent};
 ghost use Rattle.std.specs.Prelude.{◌≡◌, ◌≤◌, IfSome, IfOk, option_map, map, string_bytes};
 ghost use Rattle.clap.specs.Walk.{first_of, rows_of};
 ghost use Rattle.clap.specs.Simple.{subcommand_rows_of};
@@ -10,7 +10,7 @@ ghost use Rattle.clap.specs.Matches.{found_of};
 use crate::command_line::puzzles_command;
 use clap::ArgMatches;
 use clap::error::ErrorKind;
-use commands::{GradeOptions, Percent, Recipe, Task, game_named, usual_black};
+use commands::{GradeOptions, MOST_PERCENT, Percent, Recipe, Task, game_named, usual_black};
 use gameid_core::Game;
 use maker_core::Limits;
 use std::alloc::{AllocError, Global};
@@ -20,9 +20,6 @@ pub const BUDGET: u64 = 100_000;
 
 /// The tries where the words name none.
 pub const TRIES: u32 = 1_000;
-
-/// The highest percentage of black cells.
-pub const MOST_BLACK: u64 = 100;
 
 /// What the words ask for.
 #[derive(Drop)]
@@ -51,7 +48,7 @@ pub enum Request<'a> {
 
 /// A number in decimal digits, up to a limit.
 fn number(text: &str, most: u64) -> Option<u64>
-    ensures value { result ≡ number_of most text.now }
+    ensures value { result ≡ number_in most text.now }
     ensures within { IfSome result (λ n. n ≤ most) }
 {
     let bytes = text.as_bytes();
@@ -137,7 +134,8 @@ fn tries_from<'a>(matches: &ArgMatches<'a>) -> Option<u32>
 fn percent_or(text: Option<&str>, otherwise: Percent) -> Option<Percent>
     ensures { option_map (λ p. p.value) result ≡ number_or otherwise.value 100 (lent text.entry) }
 {
-    let value = number_or(text, MOST_BLACK, u64::from(otherwise.value))? as u8;
+    let most = u64::from(MOST_PERCENT);
+    let value = number_or(text, most, u64::from(otherwise.value))? as u8;
     Some(Percent { value })
 }
 

@@ -1,7 +1,7 @@
 //! What the numbers of a call ask for.
 ghost use Rattle.std.specs.Prelude.{◌≡◌, IfOk};
 ghost use Rattle.commands.specs.Replies.{answer_in, refused_words};
-ghost use Rattle.puzzles_c.specs.Calls.{numbered};
+ghost use Rattle.puzzles_c.specs.Calls.{game_by_number};
 
 use commands::{Reply, Status, words_reply};
 use gameid_core::Game;
@@ -9,7 +9,7 @@ use std::alloc::{AllocError, Global};
 
 /// The game of a number.
 pub fn game_numbered(number: u8) -> Option<Game>
-    ensures { result ≡ numbered number }
+    ensures { result ≡ game_by_number number }
 {
     match number {
         0 => Some(Game::Solo),

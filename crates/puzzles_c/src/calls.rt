@@ -8,12 +8,9 @@ ghost use Rattle.puzzles_c.specs.Calls.{NeedsRoom, Tells, asks_check, asks_each,
 use crate::asked::{game_numbered, numbers_refused};
 use crate::on_bytes::{READ_LIMIT, checked, graded, solved_each};
 use crate::output::{TOO_SMALL, put, put_reply};
-use commands::{BROKEN, GradeOptions, NO_MEMORY, Percent, Recipe, Stores, Task, generated};
+use commands::{BROKEN, GradeOptions, MOST_PERCENT, NO_MEMORY, Percent, Recipe, Stores, Task, generated};
 use maker_core::Limits;
 use std::alloc::Global;
-
-/// The highest percentage of black cells.
-const MOST_BLACK: u8 = 100;
 
 /// The verdict of a puzzle, as `solve GAME ID --budget B` says it.
 #[unsafe(no_mangle)]
@@ -161,7 +158,7 @@ pub extern "C" fn puzzles_generate(
     ensures whole { result ≢ BROKEN }
 {
     let reply = match game_numbered(game) {
-        Some(game) if black <= MOST_BLACK => {
+        Some(game) if black <= MOST_PERCENT => {
             let limits = Limits { budget, tries };
             let black = Percent { value: black };
             let recipe = Recipe {

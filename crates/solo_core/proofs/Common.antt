@@ -36,7 +36,7 @@ pub use Rattle.solo_core.specs.HouseLaws.{all_houses, column_in, each_house, lis
 pub use Rattle.solo_core.specs.HouseLaws.{some_numbers}
 pub use Rattle.solo_core.specs.SolutionLaws.{different_from_no_repeat, no_repeat_from_different, none_missed, own_from_no_repeat}
 pub use Rattle.solo_core.specs.PeeledHouses.{AreAllCounts, AreAlone, AreLone, AreSettledCells, AreValueCounts, AreWhole, IsAlone, IsDropped, IsOutside, IsPaired}
-pub use Rattle.solo_core.specs.PeeledHouses.{IsPassedCell, IsPeeled, IsRest, IsShortRest, IsSingleSet, KeepsFillings, KeepsOthers, KeepsReaching, LeadByMates, PairsCells}
+pub use Rattle.solo_core.specs.PeeledHouses.{IsPassedCell, IsPeeled, IsRest, IsShortRest, IsSingleSet, KeepsFillings, KeepsOthers, KeepsParts, LeadByMates, PairsCells}
 pub use Rattle.solo_core.specs.PeeledHouses.{AreCellsOf, AreMetOutside, AreSettledBut, meets}
 pub use Rattle.solo_core.specs.QuickPairings.{PairsOneMore, IsBegun}
 pub use Rattle.solo_core.specs.RuleLaws.{crossings_lawful, crossings_sound, fillings_sound, houses_lawful, singles_lawful, singles_sound}
@@ -47,6 +47,7 @@ pub use Rattle.solo_core.specs.Scopes.{IsCrossingAt, crossing_scopes, scopes_of}
 pub use Rattle.solo_core.specs.Singles.{Has, has_at, is_broken, needed_for_other, stays_in, strikes_by_singles, taken_elsewhere}
 unfoldable pub use Rattle.solo_core.specs.Singles.{strikes_where}
 pub use Rattle.solo_core.specs.SolutionLaws.{differ_in, given_from_test, rule_from_test, test_from_rule}
-pub use Rattle.solo_core.specs.Ways.{ComesAfter, ComesBefore, IsTransitiveClosure, LiesOnRounds, StaysBefore}
+pub use Rattle.solo_core.specs.Ways.{AreParts, AreTied, AreWholeParts, ComesAfter, ComesBefore, GoesTo, IsPart, IsSpreadAfter, IsSpreadBefore, IsWritten, LiesOnRounds}
+pub use Rattle.solo_core.specs.Ways.{StaysBefore}
 unfoldable pub use Rattle.solo_core.specs.Ways.{IsWay}
 pub use Rattle.solo_core.specs.declared.fault.SoloFault.TheVariants.{Given}

@@ -6,11 +6,10 @@ use Rattle.solo_core.proofs.CrossingLemmas.{any-more, any-none, cut_by, crossing
 use Rattle.solo_core.proofs.SinglesLemmas.{singles_in_houses}
 use Rattle.solo_core.proofs.PeelLemmas.{lone-counts, counts-none, counts-more, peeled-step, counts-same, peeled-none, peeled-more, rest-peeled, settled-peeled}
 use Rattle.solo_core.proofs.MateLemmas.{goes_on_free, begun-none, goes_on_swapped}
-use Rattle.solo_core.proofs.WayLemmas.{over_none, over_next}
 use Rattle.solo_core.proofs.BitLemmas.{bits_joined, single_bit}
 use Rattle.solo_core.proofs.NoteLemmas.{room-made}
 use Rattle.solo_core.proofs.SpotLemmas.{spot-1, spot-2, spot-3, spot-4}
-use Rattle.solo_core.proofs.TurnLemmas.{after-root, before-root, all_inside, after-step, before-step}
+use Rattle.solo_core.proofs.TurnLemmas.{back-done, back-none, one-part, part-spread, parts-all, parts-none, spread-done, spread-left, spreading-none, up-all, up-more, up-none, up-same}
 
 pub ruleset check_laws = (given_first, len_of, number_at, seen_none, seen_more, seen_again, seen_all, fine_more)
 
@@ -48,7 +47,7 @@ pub ruleset peel_laws =
 
 pub ruleset quick_laws = (both-bits, goes_on_free, begun-none, goes_on_swapped)
 
-pub ruleset reach_laws = (over_none, over_next)
+pub ruleset parts_laws = (parts-none, parts-all, one-part, both-bits)
 
 pub ruleset numbers_laws = (column_in, first-at, second-at, scopes-length, row_in, house-named, crossing-after, all-length)
 
@@ -64,4 +63,4 @@ pub ruleset start_laws = (started, started-none, started-all, started-blank, sta
 
 pub ruleset rule_sets_laws = (decides-at, long-at, first_at, filled-length, listed-crossings, listed-deciding, kept-houses)
 
-pub ruleset turning_laws = (after-root, before-root, all_inside, after-step, before-step, either-bits, both-bits)
+pub ruleset turning_laws = (back-none, back-done, part-spread, spread-done, spread-left, spreading-none, up-all, up-more, up-none, up-same)

@@ -10,6 +10,7 @@ mod PeelLemmas
 mod NarrowLemmas
 mod SettledLemmas
 mod OpenLemmas
+mod OpenListLemmas
 mod OpenBoardLemmas
 mod SpotLemmas
 mod NoteLemmas

@@ -5,8 +5,10 @@ use Rattle.std.proofs.lemmas.Bool.{ltb-true}
 use Rattle.solo_core.proofs.Common.{and_parts, nat_tests, ◌&&◌, ltb, lt-ltb, ◌^◌, ◌≤◌, AreSettledBut, IsOutside, IsPassedCell, IsPeeled, IsRest, IsSingleSet, List, [], ap, arith, cases_Bool, cases_eq, cases_lt, eq-eqb, eqb-true, false, false_from_ne_true, get_or_append_left, get_or_push, has_bit, has_in, inl, inr, length, length-append, or_cases, refl, slice_index, sym, true, true_from_ne_false, true≢false, zero-bits, ℕ, ◌++◌, ◌+◌, ◌<◌, ◌||◌, ◌∙◌, ◌∷◌, ◌≡◌}
 use Rattle.solo_core.proofs.BitLemmas.{none_in_zero, one_value, ones_or}
 use Rattle.solo_core.proofs.MateLemmas.{in_or_out}
-use Rattle.solo_core.proofs.NarrowLemmas.{IsNarrowed}
-use Rattle.solo_core.proofs.PeelLemmas.{counts-more, counts-same}
+use Rattle.solo_core.proofs.Common.{AreAllCounts, AreLone, AreMetOutside, AreSettledCells, Bool, slice_set, ◌⊎◌}
+use Rattle.std.proofs.lemmas.List.{set-get_or}
+use Rattle.solo_core.proofs.NarrowLemmas.{IsNarrowed, narrowed-before, narrowed-here, narrowed-more, narrowed-none}
+use Rattle.solo_core.proofs.PeelLemmas.{counts-more, counts-same, rest-lone, rest-met, settled-peeled}
 
 -- ---- cell by cell
 pub settled-none : {values settled : ℕ} {sets : List ℕ} → ((v : ℕ) → has_bit settled v ≡ true → ⊥) → AreSettledBut values sets [] 0 settled
@@ -208,3 +210,58 @@ module _ {values settled some single shared : ℕ} {old new rest : List ℕ} (s 
           ]);
         };
   }
+
+-- the values of the settled cells were struck from the first i of the others, and all values are counted but those of the later ones
+pub record AreStruck (values settled : ℕ) (old sets rest : List ℕ) (i some single shared : ℕ) (struck : Bool) : Type 0 where
+  pub narrowed : IsNarrowed (drops_settled settled) values old sets rest i some single shared
+  pub free : IsFreeOf settled sets rest i
+  pub same : struck ≡ false → sets ≡ old
+
+module _ {values settled : ℕ} {old rest : List ℕ} (s : AreSettledBut values old rest (length old) settled) where
+  pub struck-first : {some single shared : ℕ} → some ≡ settled → single ≡ settled → shared ≡ 0 → AreStruck values settled old old rest 0 some single shared false
+  struck-first a b d = rw (a, b, d) (record { narrowed = narrowed-none s.counts; free = λ t v low. absurd (omega arith); same = λ off. refl })
+
+  -- one cell more, which keeps what is kept of all
+  pub struck-more : {sets : List ℕ} {i some single shared cell : ℕ} {struck : Bool} → AreStruck values settled old sets rest i some single shared struck
+      → i < length rest → cell ≡ slice_index rest i → (set kept : ℕ) {some' single' shared' : ℕ} {now : Bool}
+      → ((v : ℕ) → has_bit set v ≡ (has_in sets cell v && has_bit kept v))
+      → ((v : ℕ) → v < values → has_bit kept v ≡ false → has_bit settled v ≡ true) → ((v : ℕ) → has_bit kept v ≡ true → has_bit settled v ≡ false)
+      → ((v : ℕ) → has_bit some' v ≡ (has_bit some v || has_bit set v))
+      → ((v : ℕ) → has_bit single' v ≡ true → (has_bit single v ≡ true) ⊎ IsSingleSet set v)
+      → ((v : ℕ) → has_bit shared' v ≡ (has_bit shared v || (has_bit some v && has_bit set v)))
+      → (now ≡ false → (set ≡ slice_index sets cell) × (struck ≡ false))
+      → AreStruck values settled old (slice_set sets cell set) rest (i + 1) some' single' shared' now
+  struck-more {sets} {i} {cell = cell} a lt is set kept bits out apart b d e same = record {
+    narrowed = narrowed-more s.within s.different a.narrowed lt is set (λ v on. let both = bits v in grind arith)
+        (λ v lv on off. out v lv (let both = bits v in grind arith)) b d e;
+    free = λ t v low lr on. elim (cases_eq t i) [
+      | inl here ↦
+          let left : slice_index (slice_set sets cell set) (slice_index rest t) ≡ set =
+          ap (λ (k : ℕ). slice_index (slice_set sets cell set) k) (ap (slice_index rest) here ∙ sym is) ∙ narrowed-here s.within s.different a.narrowed lt is set in
+          let both = bits v in
+          let has = ap (λ (x : ℕ). has_bit x v) (sym left) ∙ on in apart v (grind arith)
+      | inr ne ↦ a.free t v (omega arith) lr (ap (λ (x : ℕ). has_bit x v) (sym (narrowed-before s.within s.different a.narrowed lt is set t (omega arith))) ∙ on)
+    ];
+    same = λ off. let w = same off in ap (slice_set sets cell) w.0 ∙ set-get_or sets cell 0 ∙ a.same w.1;
+  }
+
+  -- the whole rest was struck
+  module _ {sets : List ℕ} {some single shared : ℕ} {struck : Bool} (a : AreStruck values settled old sets rest (length rest) some single shared struck) where
+    pub struck-peeled : IsPeeled values old sets
+    struck-peeled = settled-peeled_off s a.narrowed a.free
+
+    pub struck-rest : IsRest values sets rest
+    struck-rest = settled-rest s a.narrowed a.free
+
+    pub struck-settled : AreSettledCells sets rest settled
+    struck-settled = settled-peeled rest struck-peeled a.narrowed.others s.counts
+
+    pub struck-counts : AreAllCounts sets some single shared
+    struck-counts = counts-same {same = λ (k : ℕ). k < length sets} a.narrowed.counts (λ j on. refl) (λ j on. (omega (arith, a.narrowed.as_many, on), λ t le lt e. absurd (omega arith)))
+        (λ j on. omega (arith, a.narrowed.as_many, on.0))
+
+    pub struck-lone : settled < 2 ^ 32 → AreLone values sets settled
+    struck-lone low = rest-lone struck-rest struck-settled low
+
+    pub struck-outside : AreMetOutside sets rest settled
+    struck-outside = rest-met struck-rest struck-settled settled (λ v on. on)

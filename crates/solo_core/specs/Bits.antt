@@ -13,6 +13,10 @@ abbrev pub IsFirstSet : ℕ → ℕ → ℕ → ℕ → Type 0
 IsFirstSet bits from end v =
     (from ≤ v) × (v < end) × (has_bit bits v ≡ true) × NoneIsSet bits from v
 
+-- it is one of 32 bits, and set
+abbrev pub IsSmallBit : ℕ → ℕ → Type 0
+IsSmallBit bits v = (v < 32) × (has_bit bits v ≡ true)
+
 -- whether no filling without repeat has the value in the place
 abbrev pub is_struck : ℕ → List ℕ → ℕ → ℕ → Bool
 is_struck values sets place value =

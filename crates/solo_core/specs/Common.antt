@@ -33,6 +33,6 @@ pub use Rattle.solo_core.specs.declared.houses.house.NamedHouse.TheVariants.{Blo
 pub use Rattle.solo_core.specs.Houses.{block_of, solo_cells}
 pub use Rattle.solo_core.specs.Houses.{IsSoloHouse, house_places, houses_of, lies_in_house, places_of}
 unfoldable pub use Rattle.solo_core.specs.Houses.{no_repeat}
-pub use Rattle.solo_core.specs.Bits.{IsFirstSet, NoneIsSet, has_in, is_struck}
+pub use Rattle.solo_core.specs.Bits.{IsFirstSet, IsSmallBit, NoneIsSet, has_in, is_struck}
 pub use Rattle.solo_core.specs.Solutions.{IsSoloSolution, given_stands, numbers_of}
 unfoldable pub use Rattle.solo_core.specs.Solutions.{is_solo_solution}

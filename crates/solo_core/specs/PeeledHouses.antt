@@ -86,11 +86,11 @@ abbrev pub LeadByMates : List ℕ → List ℕ → List ℕ → List ℕ → Typ
 LeadByMates sets rest mates leads = (i : ℕ) → i < length rest
     → slice_index leads (slice_index mates i) ≡ slice_index sets (slice_index rest i)
 
--- each cell of the rest keeps the values that reach its mate
-abbrev pub KeepsReaching : ℕ → List ℕ → List ℕ → List ℕ → List ℕ → List ℕ → Type 0
-KeepsReaching n rest mates reach old new = (i v : ℕ) → i < length rest → v < n
+-- each cell of the rest keeps the values of what stands at its mate
+abbrev pub KeepsParts : List ℕ → List ℕ → List ℕ → List ℕ → List ℕ → Type 0
+KeepsParts rest mates parts old new = (i v : ℕ) → i < length rest
     → has_in new (slice_index rest i) v
-    ≡ (has_in old (slice_index rest i) v && has_in reach v (slice_index mates i))
+    ≡ (has_in old (slice_index rest i) v && has_in parts (slice_index mates i) v)
 
 -- the set has the value and no other
 abbrev pub IsSingleSet : ℕ → ℕ → Type 0

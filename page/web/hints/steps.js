@@ -37,10 +37,11 @@ export function hold(steps, isAway) {
   return all;
 }
 
-// Of some steps in order those on which the last one rests, and of these none that can be left out.
+// Of some steps in order those on which the last one rests, and of these none that can be left out. The later ones are tried
+// first, since one that is left out may be all that rests on an earlier one.
 export function needed(steps, isAway) {
   let kept = traced(steps, isAway);
-  for (const one of kept.slice(0, -1)) {
+  for (const one of kept.slice(0, -1).reverse()) {
     const fewer = hold(kept.filter((other) => other.strikes !== one.strikes), isAway);
     if (fewer) kept = fewer;
   }

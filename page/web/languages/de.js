@@ -114,6 +114,7 @@ export default {
     `${kind}${day ? `, ${day}` : ""}: ${isShown ? "gezeigt" : `gelöst in ${time}, ${count(hints, "Tipp", "Tipps")}`}`,
   noHint: (said) => `${said} Darum gibt es keinen Tipp.`,
   refused: (said) => `Diese ID wird abgelehnt: ${said}.`,
+  unknown: (name) => `Ein Spiel „${name}“ gibt es hier nicht. Die Spiele sind solo, pattern, lightup und tents.`,
   otherGame: (game) => `Das ist eine ID von ${GAMES[game].name}.`,
   begun: (name, filled, open, isSolved) => `${name}: ${isSolved ? "gelöst" : `${filled} von ${open}`}`,
   solvedHeads: ["Rätsel", "Gelöst", "Ohne Tipp", "Beste", "Mittel"],
@@ -183,6 +184,8 @@ export default {
     still: "Noch kein Rätsel dieser Schwierigkeit. Es wird weiter gesucht, während du spielst.", stopped: "Beendet.",
     made: "Dein neues Rätsel ist da.", noPuzzle: "Aus dieser Nummer wurde kein Rätsel. Versuche eine andere.",
     variant: "Dieser Link ist von einer Abart, die es hier nicht gibt. Es gibt Sudokus, auch mit beiden Diagonalen.",
+    drawing: "Dieser Link ist von einer Zeichnung, die nicht sagt, welches Spiel sie ist. Schreibe ihre Zahlen als 81 Zeichen, " +
+      "Zeile für Zeile, mit einem Punkt für leer.",
     same: "Dieses Rätsel liegt schon auf dem Tisch.",
     hintMore: "Noch einmal Tipp zeigt das Feld.",
     startedOver: "Alles ist wieder leer. Zurück bringt es wieder.",

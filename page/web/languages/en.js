@@ -109,6 +109,7 @@ export default {
     `${kind}${day ? `, ${day}` : ""}: ${isShown ? "shown" : `solved in ${time}, ${count(hints, "hint", "hints")}`}`,
   noHint: (said) => `${said} So there is no hint.`,
   refused: (said) => `This ID is refused: ${said}.`,
+  unknown: (name) => `There is no game “${name}” here. The games are solo, pattern, lightup and tents.`,
   otherGame: (game) => `That is an ID of ${GAMES[game].name}.`,
   begun: (name, filled, open, isSolved) => `${name}: ${isSolved ? "solved" : `${filled} of ${open}`}`,
   solvedHeads: ["Puzzle", "Solved", "Without hints", "Best", "Mean"],
@@ -175,6 +176,8 @@ export default {
     still: "No puzzle of this difficulty yet. It is still being made, while you play on.", stopped: "Stopped.",
     made: "Your new puzzle is there.", noPuzzle: "No puzzle came of this seed. Try another.",
     variant: "This link is of a variant that isn’t here. Plain sudokus are, also with both diagonals.",
+    drawing: "This link is of a drawing, which doesn’t say which game it is. Write its numbers as 81 characters, row by row, " +
+      "with a dot for blank.",
     same: "That puzzle is on the table already.",
     hintMore: "Press Hint again for the cell.", startedOver: "All is blank again. Undo brings it back.",
     marked: "Marked. Back to the mark returns to this.",

@@ -10,6 +10,9 @@
     for text, answer in puzzles.solve_all("solo", open("ids.txt")):     tens of thousands a second
         print(answer.verdict, text)
 
+    for text, answer in puzzles.grade_all("solo", open("ids.txt")):     on all cores
+        print(answer.grade, answer.trials, text)
+
     with puzzles.Worker("solo", budget=20_000, seconds=2) as worker:    a kept process behind a page
         worker.solve("3x3:..").verdict
 
@@ -22,8 +25,9 @@ The program is found beside this Python, or on the path, or where the variable P
 """
 from .answers import Answer, Checked, Grade, Graded, Grid, Made, Solved, Verdict
 from .calls import check, generate, grade, solve
-from .process import Late, NoAnswer, program
+from .grades import grade_all
+from .process import Game, Late, NoAnswer, program
 from .worker import Worker, solve_all
 
-__all__ = ["Answer", "Checked", "Grade", "Graded", "Grid", "Late", "Made", "NoAnswer", "Solved", "Verdict",
-           "Worker", "check", "generate", "grade", "program", "solve", "solve_all"]
+__all__ = ["Answer", "Checked", "Game", "Grade", "Graded", "Grid", "Late", "Made", "NoAnswer", "Solved", "Verdict",
+           "Worker", "check", "generate", "grade", "grade_all", "program", "solve", "solve_all"]

@@ -1,12 +1,12 @@
 """One question, one process: some milliseconds each."""
-from typing import Callable, Iterable, List, Optional, Type
+from typing import Callable, Iterable, List, Optional, Type, Union
 
 from . import answers, ids
 from .answers import Checked, Graded, Kind, Made, Solved
-from .process import NoAnswer, is_word, known, option, run, word_of
+from .process import Game, NoAnswer, is_word, known, option, run, text_of
 
 
-def solve(game: str, text: str, *, budget: Optional[int] = None, seconds: Optional[float] = 10) -> Solved:
+def solve(game: Game, text: str, *, budget: Optional[int] = None, seconds: Optional[float] = 10) -> Solved:
     """The solutions of an ID: none, one, or two different ones of several.
 
     `budget` is how many trials the search may make (100,000), and `seconds` the clock; None is no clock.
@@ -15,22 +15,23 @@ def solve(game: str, text: str, *, budget: Optional[int] = None, seconds: Option
     return ask(answers.solved, Solved, ["solve", *option("budget", budget)], game, text, seconds)
 
 
-def check(game: str, text: str, grid: Iterable[str], *, seconds: Optional[float] = 10) -> Checked:
-    """Whether a grid, given by its rows as they are printed, is a solution; else the first broken rule.
+def check(game: Game, text: str, grid: Union[str, Iterable[str]], *, seconds: Optional[float] = 10) -> Checked:
+    """Whether a grid is a solution; else the first broken rule. It is given as it is printed: by its rows, or as one text.
 
     Raises what `solve` does.
     """
-    return ask(answers.checked, Checked, ["check"], game, text, seconds, "".join(f"{row}\n" for row in grid))
+    rows = grid.splitlines() if isinstance(grid, str) else grid
+    return ask(answers.checked, Checked, ["check"], game, text, seconds, "".join(f"{row}\n" for row in rows))
 
 
-def grade(game: str, text: str, *, budget: Optional[int] = None, trace: bool = False,
+def grade(game: Game, text: str, *, budget: Optional[int] = None, trace: bool = False,
           seconds: Optional[float] = 10) -> Graded:
     """How hard a puzzle is; `trace` asks for the steps of the deduction too. Raises what `solve` does."""
     words = ["grade", *option("budget", budget), *(["--trace"] if trace else [])]
     return ask(answers.graded, Graded, words, game, text, seconds)
 
 
-def generate(game: str, size: str, seed: int, *, budget: Optional[int] = None, tries: Optional[int] = None,
+def generate(game: Game, size: str, seed: int, *, budget: Optional[int] = None, tries: Optional[int] = None,
              black: Optional[int] = None, seconds: Optional[float] = 60) -> Made:
     """A puzzle with exactly one solution. A seed of 0 to 2**64 - 1 gives the same one each time.
 
@@ -41,13 +42,13 @@ def generate(game: str, size: str, seed: int, *, budget: Optional[int] = None, t
     return ask(answers.made, Made, words, game, size, seconds)
 
 
-def ask(read: Callable[[List[str]], Kind], kind: Type[Kind], words: List[str], game: str, text: str,
+def ask(read: Callable[[List[str]], Kind], kind: Type[Kind], words: List[str], game: Game, text: str,
         seconds: Optional[float], given: str = "") -> Kind:
     """The answer of one run, read by a function of `answers`."""
-    game, word = known(game), word_of(text)
+    name, word = known(game), text_of(text)
     if not is_word(word):
-        return answers.refused(kind, fault_of(game, word, kind is Made))
-    lines = run([*words, "--", game, word], given, seconds)
+        return answers.refused(kind, fault_of(name, word, kind is Made))
+    lines = run([*words, "--", name, word], given, seconds)
     try:
         return read(lines)
     except ValueError:

@@ -1,13 +1,15 @@
 """Where the program is, and one run of it."""
 import math
+import operator
 import os
 import shutil
 import sysconfig
 import time
-from typing import List, Optional, Sequence, Union
+from typing import List, Literal, Optional, Sequence, Union
 
 from ._process import Process
 
+Game = Literal["solo", "pattern", "lightup", "tents"]
 GAMES = ("solo", "pattern", "lightup", "tents")
 MOST_BYTES = 65_536  # of an ID
 STATUSES = range(5)  # with an answer
@@ -40,11 +42,18 @@ def known(game: str) -> str:
 
 def option(name: str, value: Optional[int]) -> List[str]:
     """The words of an option, if it has a value."""
-    return [] if value is None else [f"--{name}={int(value)}"]
+    return [] if value is None else [f"--{name}={whole(value)}"]
 
 
-def word_of(text: str) -> bytes:
-    """A text as a word of the command line. What a form hands over around an ID is taken off."""
+def whole(value: int) -> int:
+    """A whole number. Raises TypeError for another, as 1.5."""
+    return operator.index(value)
+
+
+def text_of(text: str) -> bytes:
+    """An ID or a size in bytes. What a form hands over around it is taken off. Raises TypeError for what is no text."""
+    if not isinstance(text, str):
+        raise TypeError(f"an ID or a size is a text (str), and not {type(text).__name__}")
     return text.strip("\ufeff \t\r\n").encode("utf-8", "replace")
 
 

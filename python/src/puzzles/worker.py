@@ -11,7 +11,7 @@ from typing import Iterable, Iterator, List, Optional, Tuple
 from . import answers
 from ._process import Kept, Process, Words
 from .answers import Solved, Verdict
-from .process import MOST_BYTES, NoAnswer, known, option, program
+from .process import MOST_BYTES, Game, NoAnswer, known, option, program, text_of
 
 READS = 1_000_000  # of one process
 PART_LINES, PART_BYTES = 256, 30_000  # that are sent at once
@@ -27,7 +27,7 @@ class Worker:
     Raises ValueError for another game, FileNotFoundError without the program.
     """
 
-    def __init__(self, game: str, *, budget: Optional[int] = None, seconds: float = SECONDS):
+    def __init__(self, game: Game, *, budget: Optional[int] = None, seconds: float = SECONDS):
         words = [program(), "solve", *option("budget", budget), "--", known(game)]
         self.seconds, self.lock, self.owner = seconds, threading.Lock(), os.getpid()
         self.kept = Kept(words, READS, begun)
@@ -133,8 +133,7 @@ def begins(line: bytes) -> bool:
 
 def line_of(text: str) -> bytes:
     """A text as one line. One that can be none is a line that is refused."""
-    line = text.strip("\ufeff \t\r\n").encode("utf-8", "replace")
-    return line[:MOST_BYTES + 1].replace(b"\n", b"\r")
+    return text_of(text)[:MOST_BYTES + 1].replace(b"\n", b"\r")
 
 
 def parts(lines: Iterable[Tuple[str, bytes]]) -> Iterator[List[Tuple[str, bytes]]]:
@@ -151,7 +150,7 @@ def parts(lines: Iterable[Tuple[str, bytes]]) -> Iterator[List[Tuple[str, bytes]
         yield part
 
 
-def solve_all(game: str, texts: Iterable[str], *, budget: Optional[int] = None,
+def solve_all(game: Game, texts: Iterable[str], *, budget: Optional[int] = None,
               seconds: float = SECONDS) -> Iterator[Tuple[str, Solved]]:
     """Each text with its answer, in order, by one kept process, which the end of the loop ends.
 

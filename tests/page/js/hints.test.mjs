@@ -5,8 +5,7 @@
 // - each hint has words in each language, and all but a guess tell first where to look;
 // - each of its steps holds, by a reading of its own (hints_check.mjs), none can be left out, and each is told by itself;
 // - where one step is enough one is told, and of these the simplest: the last digit of a house, a number's one place in a block,
-// a
-//   cell's one number, a number's one place in a line;
+//   a cell's one number, a number's one place in a line;
 // - if the grade is a rule set, the steps that it knows lead to the end; if it is `search n` they don't;
 // - the weakest rule set that settles the puzzle by these rules is the grade.
 // The rules of the hints (page/web/hints/) are a program of its own. COUNT puzzles of a rule set are played of each game.
@@ -62,13 +61,13 @@ function faultsOf(puzzle, signs, told, solution) {
   return [...words, ...(puzzle.block ? checkSolo : looksNear)(puzzle, signs, told, values), ...checkTrial(puzzle, signs, told)];
 }
 
-// Plays a puzzle by its hints, and looks at each. Gives whether all steps were those that rule sets know.
+// Plays a puzzle by its hints, and looks at each. Gives whether all steps were those that rule sets know, and how many hints.
 function played(id, puzzle, solution) {
   const signs = start(puzzle);
   let last;
-  for (let isKnown = true; ;) {
+  for (let isKnown = true, hints = 0; ; hints += 1) {
     const told = hint(puzzle, signs, solution, { last });
-    if (told.kind === "done") return isKnown;
+    if (told.kind === "done") return [isKnown, hints];
     assert(KINDS.includes(told.kind), `${id}: ${told.kind}`);
     assert(told.cells.length && told.cells.every((cell) => signs[cell] === "."), `${id}: a hint that leads nowhere`);
     const reasons = told.steps.map(({ why }) => why);
@@ -88,15 +87,19 @@ function played(id, puzzle, solution) {
 }
 
 for (const game of Object.keys(SIZES)) {
-  test(`${game}: hints lead to the end, and agree with grades`, { skip: !existsSync(PROGRAM) && "no built program" }, () => {
+  test(`${game}: hints lead to the end, and agree with grades`, { skip: !existsSync(PROGRAM) && "no built program" }, (test) => {
+    let all = 0;
     for (let seed = 1, found = 0; found < COUNT; seed += 1) {
       const [id, ...grid] = ask("generate", game, SIZES[game][seed % SIZES[game].length], "--seed", String(seed),
         "--budget", "1000");
       if (id === "exhausted") continue;
       const [grade] = ask("grade", game, "--", id)[0].split(" "), puzzle = read(game, id);
-      assert.equal(played(id, puzzle, scan(puzzle, grid)), grade !== "search", `${id}: grade ${grade}`);
+      const [isKnown, hints] = played(id, puzzle, scan(puzzle, grid));
+      assert.equal(isKnown, grade !== "search", `${id}: grade ${grade}`);
       assert.equal(settledBy(puzzle), grade, id);
       found += grade !== "search";
+      all += hints;
     }
+    test.diagnostic(`${all} hints`);
   });
 }

@@ -1,7 +1,8 @@
-// Links of other pages. The packed texts were made by another program, python3-lzstring.
+// What is written into the box: links, also of other pages, sudokus in a line, IDs. The packed texts were made by another program, python3-lzstring.
 import assert from "node:assert/strict";
 import test from "node:test";
 import { linked, unpacked } from "../../../page/web/links.js";
+import { meant } from "../../../page/web/meant.js";
 import { read } from "../../../page/web/puzzle.js";
 
 const PACKED = {
@@ -46,4 +47,24 @@ test("sudokus and akari of puzz.link", () => {
   assert.equal(linked("https://puzz.link/p?akari/4/2/6bl").id, "4x2:1a1e");
   assert.equal(linked("https://puzz.link/p?slither/4/4/1h4"), undefined);
   assert.equal(linked("3x3:aBBa1aBb"), undefined);
+});
+
+test("what is written into the box: an ID, a link, a sudoku in a line", () => {
+  const tents = "2x2:_c,0,1,1,0", isMeant = (text, game, id) => assert.deepEqual(meant(text, "pattern"), { game, text: id }, text);
+  isMeant("5x1:1/1//1/1/2.2", "pattern", "5x1:1/1//1/1/2.2");
+  isMeant(`see https://puzzles.example/#tents/${encodeURIComponent(tents)}`, "tents", tents);
+  isMeant(`tents/${tents}`, "tents", tents);
+  isMeant(GIVENS, "solo", "3x3:5_3b7d6b1_9_5d9_8d6a8c6c3_4b8a3b1_7c2c6a6d2_8d4_1_9b5d8b7_9");
+  isMeant("https://puzz.link/p?akari/3/3/g..g1g.h", "lightup", "3x3:aBBa1aBb");
+});
+
+test("what names a game that isn't here isn't refused as an ID", () => {
+  const fault = (text) => meant(text, "solo");
+  assert.deepEqual(fault("loopy/7x7t0:a3b"), { fault: "unknown", called: "loopy" });
+  assert.deepEqual(fault("https://puzzles.example/#loopy%2F7x7t0%3Aa3b"), { fault: "unknown", called: "loopy" });
+  assert.deepEqual(fault("https://puzz.link/p?slither/4/4/1h4"), { fault: "unknown", called: "slither" });
+  assert.deepEqual(fault(`${"y".repeat(200)}/1`), { fault: "unknown", called: "y".repeat(30) });
+  assert.deepEqual(fault("https://sudokus.example/today"), { fault: "link" });
+  assert.deepEqual(fault(`https://f-puzzles.com/?load=${PACKED.thermo}`), { fault: "variant" });
+  assert.deepEqual(fault("https://swaroopg92.github.io/penpa-edit/#m=edit&p=7VRNb9s"), { fault: "drawing" });
 });

@@ -60,6 +60,15 @@ test("notes that agree are used and said, and those that don't agree are not", (
     hint(puzzle2, [...".....4.........."], right).cells);
 });
 
+test("a step that only a step rests on which isn't needed is left out too", () => {
+  const puzzle = read("solo", "3x3x:l9e9c3e3a2f8a7e2_7_6_1d3_7a8d5_4d1b7c4c3b");
+  const solution = [..."367451892852976431941832765439265187185743926276198543718329654593614278624587319"];
+  const signs = [..."3........8..9...3.9.1.3.....3.2......8.7.3...2761....37183...54.93.1..7..24...31."];
+  const told = hint(puzzle, signs, solution);
+  assert.deepEqual([told.kind, told.cells, told.values], ["step", [43], [2]]);
+  assert.deepEqual(told.steps.map(({ why }) => nameOf(why)), ["nakedTriple", "nakedPair", "hiddenSingle"]);
+});
+
 test("a cell that is tried out shows what follows, cell by cell", () => {
   const puzzle = read("lightup", "3x3:aBBa1aBb"), told = hint(puzzle, start(puzzle), [...".##O1.#.O"]);
   assert.equal(told.kind, "trial");

@@ -16,7 +16,8 @@ pub fn put_all<O: Sink>(output: &mut O, bytes: &[u8]) -> Result<(), Stop>
     ensures ok { OnOk result (O.takes output.old bytes.now output.new) }
     ensures fine { OnOk result (O.has_failed output.new ≡ false) }
     ensures err { OnErr result (PutBegun O.takes output.old bytes.now output.new) }
-    ensures cause { IfErr result (λ e. (O.has_failed output.new ≡ true) × (is_broken_end e ≡ true)) }
+    ensures cause { IfErr result (λ e. (O.has_failed output.new ≡ true)
+        × (is_broken_end e ≡ true)) }
 {
     let mut rest = bytes;
     while !rest.is_empty() {

@@ -1,5 +1,5 @@
 //! Texts that are read, and kept as long as they are not too long; an input that is read whole.
-ghost use Rattle.std.specs.Prelude.{◌≡◌, ◌≤◌, ◌++◌, ◌∷◌, ◌==◌, ◌&&◌, [], ℕ, true, false, length, IfOk, IfErr, OnOk};
+ghost use Rattle.std.specs.Prelude.{◌≡◌, ◌≤◌, ◌++◌, ◌==◌, ◌&&◌, [], ℕ, true, false, length, IfOk, IfErr, OnOk};
 ghost use Rattle.std.specs.Str.Lines.{strip_carriage_return};
 ghost use Rattle.commands.specs.Answers.{Text};
 ghost use Rattle.commands.specs.Batches.{IsInputLine, text_of_line};
@@ -18,7 +18,7 @@ pub const TEXT_LIMIT: usize = 16_384;
 
 /// Most bytes of a line that are kept. Of more it is over-long, also if one carriage return at its
 /// end is no part of it.
-const LINE_LIMIT: usize = MAX_ID + 1;
+pub const LINE_LIMIT: usize = MAX_ID + 1;
 
 /// The bytes of a text so far, as long as they are not too many.
 #[derive(Drop)]
@@ -49,29 +49,16 @@ impl ReadText {
         }
     }
 
-    /// Takes more bytes of a text that is read whole.
-    fn take(&mut self, chunk: &[u8]) -> Result<(), AllocError>
-        ensures { OnOk result ((seen : Text) → IsKeptText TEXT_LIMIT self.old seen
-            → IsKeptText TEXT_LIMIT self.new (seen ++ chunk.now)) }
+    /// Takes more bytes of a text, of which at most so many are kept.
+    pub fn take(&mut self, limit: usize, chunk: &[u8]) -> Result<(), AllocError>
+        ensures { OnOk result ((seen : Text) → IsKeptText limit self.old seen
+            → IsKeptText limit self.new (seen ++ chunk.now)) }
     {
-        if self.is_over || chunk.len() > TEXT_LIMIT - self.bytes.len().min(TEXT_LIMIT) {
+        if self.is_over || chunk.len() > limit - self.bytes.len().min(limit) {
             self.is_over = true;
             return Ok(());
         }
         self.bytes.extend_from_slice(chunk)
-    }
-
-    /// Takes one more byte of a line.
-    pub fn push(&mut self, byte: u8) -> Result<(), AllocError>
-        ensures { OnOk result ((piece : Text) → IsKeptText LINE_LIMIT self.old piece
-            → IsKeptText LINE_LIMIT self.new (piece ++ byte ∷ [])) }
-    {
-        if self.bytes.len() < LINE_LIMIT {
-            self.bytes.push(byte)?;
-        } else {
-            self.is_over = true;
-        }
-        Ok(())
     }
 
     /// Begins the next line, in the same memory.
@@ -132,7 +119,7 @@ fn take_whole<I: Source>(kept: &mut ReadText, input: &mut I) -> Result<(), Stop>
     for _turn in 0..CALL_LIMIT {
         match input.fetch(&mut buffer) {
             Some(0) => return Ok(()),
-            Some(count) => kept.take(&buffer[..count])?,
+            Some(count) => kept.take(TEXT_LIMIT, &buffer[..count])?,
             None => return Err(Stop::Broken),
         }
     }

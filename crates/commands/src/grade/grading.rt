@@ -5,7 +5,8 @@ ghost use Rattle.commands.specs.Grades.{HasOneSolution, IsRightGrade, searched_g
 ghost use Rattle.commands.specs.PuzzleFacts.{Accepts};
 ghost use Rattle.commands.specs.TracePieces.{HasClosedStart, IsGradeBy};
 
-use crate::grade::{Attempt, Grade};
+use crate::grade::Attempt;
+use crate::grade::grades::Grade;
 use crate::solve::solvable::Solvable;
 use engine_core::{Searchable, Store, Verdict};
 use std::alloc::{AllocError, Global};

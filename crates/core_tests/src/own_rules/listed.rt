@@ -2,7 +2,7 @@
 //! nothing, so whether a grid is a solution is told by its test alone.
 
 ghost use Rattle.std.specs.Prelude.{refl, true};
-ghost use Rattle.core_tests.specs.Listed.{listed, pairs};
+ghost use Rattle.core_tests.specs.Listed.{listed_rules, pairs};
 ghost use Rattle.core_tests.specs.ListedLaws.{listed-lawful};
 
 use engine_core::{HouseList, Noted, PlainNotes, RuleParts, RuleSet};
@@ -23,7 +23,7 @@ impl RuleSet for Listed {
 
     ghost known = { λ _. Unit {0} };
 
-    ghost system = { λ _. listed };
+    ghost system = { λ _. listed_rules };
 
     ghost scopes = { λ _. pairs };
 

@@ -6,7 +6,7 @@ ghost use Rattle.grid_core.specs.Board.{cells_of, has};
 ghost use Rattle.engine_core.specs.Mode.{is_queue};
 ghost use Rattle.engine_core.specs.declared.mode.Mode.{Mode};
 ghost use Rattle.engine_core.specs.declared.mode.Mode.TheVariants.{Queue, Sweep};
-ghost use Rattle.core_tests.specs.Neighbours.{neighbours, has_other};
+ghost use Rattle.core_tests.specs.Neighbours.{neighbours, neighbour_has_other};
 
 use engine_core::{Mode, PlainPosition, Rules, Searchable, apply};
 use grid_core::{Board, Grid};
@@ -54,7 +54,7 @@ fn kept_beside(board: &Board, cell: usize) -> u32
     requires cell_in { cell < cells_of board.now }
     requires few { board.now.values ≤ 31 }
     ensures { (v : ℕ) → v < board.now.values
-        → (bit_at result v == 1) ≡ has_other board.now.values (has board.now cell) v }
+        → (bit_at result v == 1) ≡ neighbour_has_other board.now.values (has board.now cell) v }
 {
     match board.count(cell) {
         0 => 0,

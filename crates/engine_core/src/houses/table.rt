@@ -2,8 +2,9 @@
 #![tactic(auto, using(crate::proofs::LawSets::house_index_laws))]
 
 ghost use Rattle.std.specs.Prelude.{◌*◌, ◌+◌, ◌/◌, ◌<◌, ◌^◌, ◌||◌, ◌≡◌, ◌≤◌, IfOk, ℕ, length, slice_index};
-ghost use Rattle.engine_core.specs.Common.{has_place, IsNext};
-ghost use Rattle.engine_core.specs.HouseList.{AreMarkedToo, AreScopes, HasWordsAt, scope_of, AreMarksAt, HasMarked};
+ghost use Rattle.std.specs.List.{between};
+ghost use Rattle.engine_core.specs.Common.{has_place, words_of, IsNext};
+ghost use Rattle.engine_core.specs.HouseList.{AreMarked, AreMarkedToo, AreScopes, HasWordsAt, scope_of, AreMarksAt, HasMarked};
 
 use crate::houses::list::FrozenList;
 use crate::waits::next_waiting;
@@ -24,15 +25,27 @@ fn mark_house(marks: &mut [u64], words: usize, house: usize, places: &[u32])
     }
 }
 
+/// Marks each house that is marked in the words of the place: each place has so many.
+pub(crate) fn join_place(waits: &mut [u64], marks: &[u64], words: usize, place: usize)
+    requires marks { place * words + words ≤ length marks.now }
+    requires waits { words ≤ length waits.old }
+    ensures { AreMarkedToo (between (place * words) (place * words + words) marks.now)
+        waits.old waits.new }
+{
+    if words == 1 {
+        waits[0] |= marks[place];
+    } else {
+        let from = place * words;
+        join_marks(waits, &marks[from..from + words]);
+    }
+}
+
 /// Marks each house that is marked in the second words.
-pub(crate) fn join_marks(waits: &mut [u64], marks: &[u64])
+#[inline(never)] // so that the loop doesn't burden the callers, which have one word mostly
+fn join_marks(waits: &mut [u64], marks: &[u64])
     requires { length marks.now ≤ length waits.old }
     ensures { AreMarkedToo marks.now waits.old waits.new }
 {
-    if marks.len() == 1 {
-        waits[0] |= marks[0];
-        return;
-    }
     for word in 0..marks.len() {
         waits[word] |= marks[word];
     }
@@ -87,6 +100,15 @@ impl HouseTable {
         ensures { result ≡ self.now.cells }
     {
         self.cells
+    }
+
+    /// The marks of all places, one after another, and how many words a place has.
+    pub(crate) fn marks(&self) -> (&[u64], usize)
+        ensures marks { AreMarked self.now.cells self.now.scopes (length self.now.scopes)
+            result.0.now }
+        ensures words { result.1 ≡ words_of (length self.now.scopes) }
+    {
+        (&self.marks, self.list.len() / 64 + 1)
     }
 
     /// The marks of the houses that have the place.

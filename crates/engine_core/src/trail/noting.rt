@@ -5,6 +5,7 @@ ghost use Rattle.std.specs.Prelude.{◌≤◌, length};
 ghost use Rattle.engine_core.specs.Common.{AreWokenSince, IsAlive, IsBoardOf, IsTrailBack, StillServes, has, needs_of, words_of};
 
 use crate::house_rules::HouseRules;
+use crate::houses::table::join_place;
 use crate::notes::{Noted, Notes};
 use crate::trail::trailed::TrailedBoard;
 
@@ -32,13 +33,14 @@ pub(crate) fn wake_since<S: Noted>(
     ensures keeps { StillServes S.Notes.made_for notes.old notes.new }
 {
     let board = trailed.board();
+    let (marks, words) = rules.marks();
     for number in from..trailed.len() {
         let place = trailed.changed(number);
-        rules.wake(place, waits);
+        join_place(waits, marks, words, place);
         if board.count(place) == 1 {
             notes.single(rules, place, board);
             if last_first {
-                rules.wake(place, first);
+                join_place(first, marks, words, place);
             }
         }
     }

@@ -1,5 +1,6 @@
 //! Made puzzles, as the program prints them.
 use crate::tests::fakes::outcome;
+use crate::tests::solutions::solves;
 use gameid_core::{SoloPuzzle, read_solo, write_solo};
 use std::alloc::Global;
 use std::test::Fail;
@@ -19,7 +20,7 @@ fn writes(alloc: Global, words: &[&str], input: &[u8], text: &[u8]) -> Result<bo
     Ok(status == 0 && written.as_slice() == text)
 }
 
-/// Whether a written ID is of the size, `solve` answers its grid alone, and `check` finds that correct.
+/// Whether a written ID is of the size, its grid solves it, `solve` answers that alone, and `check` finds it correct.
 fn is_solved(alloc: Global, [game, size, budget]: [&str; 3], written: &[u8]) -> Result<bool, Fail> {
     let (id, grid) = str::from_utf8(written)?
         .split_once('\n')
@@ -29,7 +30,7 @@ fn is_solved(alloc: Global, [game, size, budget]: [&str; 3], written: &[u8]) -> 
     let words = ["solve", game, id, "--budget", budget];
     let is_one = writes(alloc, &words, b"unread", one.as_bytes())?;
     let is_correct = writes(alloc, &["check", game, id], grid.as_bytes(), b"correct\n")?;
-    Ok(own_size == size && is_one && is_correct)
+    Ok(own_size == size && is_one && is_correct && solves(alloc, game, id, grid)?)
 }
 
 /// Whether what a run makes is solved within the budget.
@@ -59,6 +60,34 @@ fn made_puzzles_are_solved(rt: HostRuntime) -> Result<(), Fail> {
     }
     // Without a trial no second grid is found, whichever givens are taken away.
     assert!(rt; makes(rt.alloc(), ["solo", "2x2", "1", "0", "1"])?);
+    Ok(())
+}
+
+#[test]
+fn what_a_search_gave_up_is_not_made(rt: HostRuntime) -> Result<(), Fail> {
+    // Of seed 7 the first filling of 2 by 2 cells has two solutions, each one trial away.
+    for (game, size) in [("pattern", "2x2"), ("pattern", "3x3"), ("tents", "4x4")] {
+        for seed in ["1", "2", "3", "4", "5", "6", "7", "8", "9"] {
+            let is_fine = makes(rt.alloc(), [game, size, seed, "1", "1000"])?;
+            assert!(rt; is_fine, "{game} {size} of {seed}");
+        }
+    }
+    Ok(())
+}
+
+/// The grid of a puzzle of Solo X that is made of seed 28. With three trials no grid is found below the first top row, and nothing
+/// is drawn for that. So the grid of the second is flipped by the draw that follows its shuffle.
+const FLIPPED: &str =
+    "3 5 2 4 6 1\n6 4 1 3 2 5\n2 1 5 6 3 4\n1 6 4 2 5 3\n4 3 6 5 1 2\n5 2 3 1 4 6\n";
+
+#[test]
+fn nothing_is_drawn_for_a_row_without_a_grid(rt: HostRuntime) -> Result<(), Fail> {
+    let words = ["generate", "solo", "3x2x", "--seed", "28", "--budget", "3"];
+    let written = made(rt.alloc(), &words)?;
+    let (_, grid) = str::from_utf8(&written)?
+        .split_once('\n')
+        .ok_or("a line end")?;
+    assert_eq!(rt; grid, FLIPPED);
     Ok(())
 }
 

@@ -2,6 +2,7 @@
 //! table has runs that write the same, with ` ; ` between them, as `Row::read` says of each.
 use crate::run::run_on_bytes;
 use crate::tests::rows::Row;
+use crate::tests::solutions::prints_solutions;
 use std::alloc::Global;
 use std::test::Fail;
 
@@ -14,6 +15,7 @@ solve pattern 1x1:01/1 ; solve pattern 1:1/1 > 0 one|#|
 solve pattern 2x1:1/1/1 ; solve solo 2x2:1_1n ; solve lightup 2x2:1c --budget 2 ; \
     solve lightup 2x2:1c --budget 18446744073709551615 ; solve lightup 2x2:1BBB --budget 0 ; \
     solve tents 5x3:aiaa,1,0,2,0,0,2,0,1 --budget 0 ; solve solo 2x2:1_1n --budget 0 ; \
+    solve tents 4x2:_bd,0,1,1,0,2,0 --budget 0 ; solve tents 4x2:_bd,0,1,1,0,2,0 ; \
     solve solo 2x2x:1d1j --budget 100000 > 1 none|
 solve pattern 2x2:1/1/1/1 ; solve pattern 2x2:1/1/1/1 --budget 2 ; \
     solve pattern 2x2:1/1/1/1 --budget 18446744073709551615 ; \
@@ -54,6 +56,11 @@ solve lightup 3x3:aBBa1aBb --budget 3 ; \
     solve lightup 3x3:aBBa1aBb --budget 1 > 4 gave up|.##|O1.|#.O|
 solve tents 2x2:_c,0,1,1,0 --budget 0 ; solve tents 2x2:_c,0,1,1,0 > 0 one|T^|..|
 solve tents 2x2:d,0,0,0,0 --budget 0 > 0 one|..|..|
+solve tents 4x4:abbh,1,0,1,1,2,0,1,0 --budget 0 > 0 one|^T^.|T..T|...^|....|
+solve tents 4x4:dbbe,1,1,0,1,1,0,2,0 --budget 0 > 0 one|^...|T..T|.^T^|....|
+solve tents 4x4:_i_d,0,1,1,1,1,1,0,1 --budget 0 > 0 one|T^..|...^|..TT|..^.|
+solve tents 4x4:abfd,1,0,1,1,1,0,1,1 --budget 0 > 0 one|.T^.|T...|^..T|...^|
+solve pattern 1x4:1.2/1//1/1 --budget 0 > 0 one|#|.|#|#|
 solve pattern 2x2:1/1/1/1 --budget 1 > 4 gave up|.#|#.|
 solve solo 2x2:p --budget 7 > 4 gave up|1 2 3 4|3 4 1 2|2 1 4 3|4 3 2 1|
 solve pattern 1x1:/ --budget x ; solve pattern 1x1:/ --budget '' ; \
@@ -141,7 +148,8 @@ check solo 2x3:zj < 1 2 3 4 5 6|3 4 5 6 1 2|5 6 1 2 3 4|2 3 4 5 6 1|4 5 6 1 2 3|
 check solo 2x3:zj < 1 2 3 4 5 6|4 5 6 1 2 3|2 3 1 5 6 4|5 6 4 2 3 1|3 1 2 6 4 5|6 4 5 3 1 2| ; \
     check pattern 2x1:1//1 < #. ; check lightup 2x2:2c < 2O|O. ; \
     check tents 2x2:_c,0,1,1,0 < T^|.. ; check pattern 2x1:1//1 < #.| ; \
-    check pattern 2x1:1//1 < #.\r| ; check solo 2x2x:p < 1 2 3 4|3 4 1 2|4 3 2 1|2 1 4 3| ; \
+    check pattern 2x1:1//1 < #.\r| ; check pattern 1x4:1.2/1//1/1 < #|.|#|#| ; \
+    check solo 2x2x:p < 1 2 3 4|3 4 1 2|4 3 2 1|2 1 4 3| ; \
     check solo 2x3:zj < 2 5 6 4 1 3|4 1 3 6 2 5|5 2 4 3 6 1|6 3 1 5 4 2|1 6 5 2 3 4|3 4 2 1 5 6| ; \
     check pattern 5x1:1/1//1/1/2.2 < ##.##| ; check pattern 5x1:1/1//1/1/2.2 < ##.## ; \
     check pattern 2x2:1/1/1/1 < .#|#.| ; check pattern 2x2:1/1/1/1 < #.\r|.#\r| ; \
@@ -212,13 +220,16 @@ grade tents 3x3 --budget 0 > 2 refused: no colon|
 
 /// Puzzles that are made of each seed, and what is not made. The 16 words of the first block of ChaCha8 for a key of zeros
 /// are published; drawn below 100 they are 18, 83, 90, 63, 76, 23, 53, 11, 44, 25, 40, 9, 63, 0, 72 and 26. For a key that
-/// begins with 1 the first draw is 62.
+/// begins with 1 the first draw is 62. The places of Tents are shuffled by two words, and each tent takes one more. The second
+/// try of seed 1 has one solution.
 const MAKINGS: &str = "\
 generate pattern 2x2 --seed 1 --black 100 > 0 2x2:2/2/2/2|##|##|
 generate pattern 2x2 --seed 1 --black 0 > 0 2x2:///|..|..|
 generate lightup 2x2 --seed 1 --black 100 > 0 2x2:BBBB|##|##|
 generate pattern 16x1 --seed 0 > 0 16x1:1/////1//1/1/1/1/1//1//1/1.1.5.1.1|#....#.#####.#.#|
 generate pattern 1x1 --seed 1 --black 62 > 0 1x1:/|.|
+generate tents 4x4 --seed 0 > 0 4x4:gae_,1,0,0,2,1,0,2,0|...^|...T|^T.^|...T|
+generate tents 4x4 --seed 1 > 0 4x4:ded_,1,0,2,0,1,1,0,1|^...|T.^.|..T.|..^T|
 generate pattern 1x1 --seed 1 --black 63 > 0 1x1:1/1|#|
 generate lightup 2x2 --seed 1 --black 0 ; generate solo 2x2 --seed 1 --tries 0 ; \
     generate lightup 2x2 --seed 1 --black 100 --tries 0 ; \
@@ -241,12 +252,12 @@ const REFUSED: &str = "\
     pattern solve 1x1:/ ;  > 2 refused: words|
 ";
 
-/// The first run of a line that doesn't write what the line tells.
+/// The first run of a line that doesn't write what the line tells, or prints a grid that solves nothing.
 fn untold(alloc: Global, line: &str) -> Result<Option<&str>, Fail> {
     let (runs, told) = line.split_once(" > ").ok_or("an answer")?;
     for asked in runs.split(" ; ") {
         let row = Row::of(alloc, asked, told)?;
-        if !row.is_told(alloc) {
+        if !row.is_told(alloc) || !prints_solutions(alloc, &row.words, &row.text)? {
             return Ok(Some(asked));
         }
     }

@@ -1,17 +1,19 @@
 //! A visit of the open cells of a house.
 #![tactic(auto)]
 
-ghost use Rattle.std.specs.Prelude.{◌<◌, ◌≡◌, ◌≤◌, ℕ, IfNone, IfSome, length, replicate, slice_index, take, true};
+ghost use Rattle.std.specs.Prelude.{◌<◌, ◌≡◌, ◌≤◌, ◌&&◌, ℕ, IfNone, IfSome, false, length, nat_lt, not, replicate, slice_index, take};
 ghost use Rattle.grid_core.specs.Board.{has, cells_of};
 ghost use Rattle.grid_core.specs.Candidates.{max_values};
 ghost use Rattle.engine_core.specs.HouseSets.{AreBelow};
 ghost use Rattle.engine_core.specs.Trail.{AreRising};
-ghost use Rattle.solo_core.specs.Common.{has_bit as is_set};
+ghost use Rattle.solo_core.specs.Common.{has_bit as is_set, has_in};
 ghost use Rattle.solo_core.specs.OpenHouses.{AreWholeOutside, IsOpenHouse, IsVisitedOpen, ListsBits};
+ghost use Rattle.solo_core.specs.PeeledHouses.{AreAllCounts, AreLone, AreMetOutside, AreSettledCells, IsPeeled, IsRest, KeepsOthers};
 
-use crate::visits::bits::next_bit;
-use crate::visits::houses::keep_open;
+use crate::visits::bits::{next_bit, others_below, with_bit, without};
+use crate::visits::houses::keep_counted;
 use crate::visits::open::OpenHouse;
+use crate::visits::peel::Counts;
 use engine_core::gather;
 use grid_core::{Board, Pairing};
 
@@ -35,8 +37,10 @@ pub(crate) fn visit_open(
     requires house { IsOpenHouse (λ k v. has board.now (slice_index places.now k) v)
         values house }
     requires pairing { values ≤ pairing.old.room }
-    ensures visited { IfSome result (λ count. IsVisitedOpen values (has board.now) places.now kept.new) }
-    ensures dead { IfNone result (IsVisitedOpen values (has board.now) places.now (replicate values 0)) }
+    ensures visited { IfSome result
+        (λ count. IsVisitedOpen values (has board.now) places.now kept.new) }
+    ensures dead { IfNone result
+        (IsVisitedOpen values (has board.now) places.now (replicate values 0)) }
     ensures count { IfSome result (λ count. count ≤ length rest.new) }
     ensures listed { IfSome result (λ count. AreRising values (take count rest.new)) }
     ensures others { IfSome result (λ count. AreWholeOutside values (has board.now) places.now
@@ -46,28 +50,61 @@ pub(crate) fn visit_open(
     ensures pairing { pairing.new.room ≡ pairing.old.room }
 {
     gather(board, places, kept);
-    let count = list_bits(house.cells, places.len(), rest);
-    match keep_open(values, house, &rest[..count], kept, pairing) {
+    let settled = others_below(values, house.values);
+    let (counts, count, is_struck) = strike_open(values, house, settled, kept, rest);
+    match keep_counted(
+        values,
+        counts,
+        settled,
+        &rest[..count],
+        kept,
+        is_struck,
+        pairing,
+    ) {
         Some(true) => Some(count),
         Some(false) => Some(0),
         None => None,
     }
 }
 
-/// Lists the bits that are set, which are below `end`. Tells how many they are.
-fn list_bits(bits: u32, end: usize, list: &mut [u8]) -> usize
-    requires few { end ≤ max_values }
-    requires room { end ≤ length list.old }
-    requires below { (k : ℕ) → is_set bits k ≡ true → k < end }
-    ensures count { result ≤ end }
-    ensures room { length list.new ≡ length list.old }
-    ensures listed { ListsBits bits (take result list.new) }
+/// Lists the open cells of a house, strikes from them the values that are not open, which are settled, and counts the values of
+/// all cells. Tells how many are listed, and whether anything was struck.
+fn strike_open(
+    values: u8,
+    house: OpenHouse,
+    settled: u32,
+    sets: &mut [u32],
+    rest: &mut [u8],
+) -> (Counts, usize, bool)
+    requires few { values ≤ max_values }
+    requires square { length sets.old ≡ values }
+    requires room { values ≤ length rest.old }
+    requires house { IsOpenHouse (has_in sets.old) values house }
+    requires settled { (v : ℕ) → is_set settled v
+        ≡ (nat_lt v values && not (is_set house.values v)) }
+    ensures few { result.1 ≤ values }
+    ensures room { length rest.new ≡ length rest.old }
+    ensures listed { ListsBits house.cells (take result.1 rest.new) }
+    ensures peeled { IsPeeled values sets.old sets.new }
+    ensures counts { AreAllCounts sets.new result.0.some result.0.single result.0.shared }
+    ensures settled { AreSettledCells sets.new (take result.1 rest.new) settled }
+    ensures rest { IsRest values sets.new (take result.1 rest.new) }
+    ensures lone { AreLone values sets.new settled }
+    ensures outside { AreMetOutside sets.new (take result.1 rest.new) settled }
+    ensures same { result.2 ≡ false → sets.new ≡ sets.old }
+    ensures others { KeepsOthers (take result.1 rest.new) sets.old sets.new }
 {
-    let (mut count, mut from) = (0, 0);
-    while let Some(bit) = next_bit(bits, from, end) {
-        list[count] = bit as u8;
+    let mut counts = Counts::of_settled(settled);
+    let (mut count, mut is_struck) = (0, false);
+    let mut left = house.cells;
+    while let Some(cell) = next_bit(left, 0, usize::from(values)) {
+        left = without(left, with_bit(0, cell));
+        rest[count] = cell as u8;
         count += 1;
-        from = bit + 1;
+        let set = sets[cell] & house.values;
+        is_struck |= set != sets[cell];
+        sets[cell] = set;
+        counts = counts.with(set);
     }
-    count
+    (counts, count, is_struck)
 }

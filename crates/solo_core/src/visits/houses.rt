@@ -1,21 +1,17 @@
 //! What a visit of a house keeps: the values that fillings without repeat have.
 
-ghost use Rattle.std.specs.Prelude.{◌≡◌, ℕ, ◌<◌, ◌≤◌, ◌&&◌, IfNone, IfSome, Some, false, length, replicate, true};
+ghost use Rattle.std.specs.Prelude.{◌≡◌, ◌≤◌, IfNone, IfSome, Some, false, length, replicate, true};
 ghost use Rattle.grid_core.specs.Candidates.{max_values};
-ghost use Rattle.solo_core.specs.Common.{has_bit as is_set, has_in};
-ghost use Rattle.solo_core.specs.PeeledHouses.{AreAllCounts, AreLone, AreMetOutside, AreSettledBut, AreSettledCells, IsPaired, IsPeeled, IsRest, KeepsFillings, KeepsOthers, KeepsReaching};
-ghost use Rattle.solo_core.specs.OpenHouses.{IsOpenHouse, ListsBits};
+ghost use Rattle.solo_core.specs.Common.{AreDifferent};
+ghost use Rattle.solo_core.specs.PeeledHouses.{AreAllCounts, AreCellsOf, AreLone, AreMetOutside, AreSettledBut, AreSettledCells, IsPaired, IsPeeled, IsRest, KeepsFillings, KeepsOthers, KeepsParts};
 
-use crate::visits::bits::{next_bit, others_below, with_bit_if};
+use crate::visits::bits::{both, others_below};
 use crate::visits::graph::MANY;
 use crate::visits::mates::pair_rest;
-use crate::visits::open::OpenHouse;
+use crate::visits::parts::{write_leads, write_parts};
 use crate::visits::peel::{Counts, are_whole, peel};
-use crate::visits::reach::{close_under_steps, write_leads};
 use crate::visits::settle::{settle, strike_settled};
-use crate::visits::turning::lie_on_rounds;
 use arrayvec::ArrayVec;
-use engine_core::has_bit;
 use grid_core::Pairing;
 
 /// Decides what is kept of the sets of a house: bit `v` of the `k`-th stays exactly where some filling without repeat
@@ -25,7 +21,7 @@ use grid_core::Pairing;
 /// of cells that have one alone are struck from the others first. If none has, and the others have all other values each,
 /// nothing more is struck. Else one filling of the rest is found by a pairing. Another one has the value `v` in a cell exactly
 /// where one can go from `v` back to the cell's value in the first filling, each time to a value that the cell of the last could
-/// have instead: the cells on the way change their values in turn.
+/// have instead: the cells on the way change their values in turn. So each cell keeps the values that are tied to its own.
 pub(crate) fn keep_houses(values: u8, sets: &[u32], kept: &mut [u32], pairing: &mut Pairing) -> bool
     requires few { values ≤ max_values }
     requires square { length sets.now ≡ values }
@@ -47,34 +43,8 @@ pub(crate) fn keep_houses(values: u8, sets: &[u32], kept: &mut [u32], pairing: &
     }
 }
 
-/// Decides what is kept of the sets of a house in which these cells and values are open. The rest are the open cells. Says
-/// whether anything may be struck, or that no filling without repeat is left.
-#[inline(always)]
-pub(crate) fn keep_open(
-    values: u8,
-    house: OpenHouse,
-    rest: &[u8],
-    kept: &mut [u32],
-    pairing: &mut Pairing,
-) -> Option<bool>
-    requires few { values ≤ max_values }
-    requires square { length kept.old ≡ values }
-    requires house { IsOpenHouse (has_in kept.old) values house }
-    requires rest { ListsBits house.cells rest.now }
-    requires rest_few { length rest.now ≤ values }
-    requires room { values ≤ pairing.old.room }
-    ensures decided { IfSome result (λ is_struck. KeepsFillings values kept.old kept.new) }
-    ensures same { result ≡ Some false → kept.new ≡ kept.old }
-    ensures none { IfNone result (KeepsFillings values kept.old (replicate values 0)) }
-    ensures others { KeepsOthers rest.now kept.old kept.new }
-    ensures room { pairing.new.room ≡ pairing.old.room }
-{
-    let closed = others_below(values, house.values);
-    keep_settled(values, closed, rest, kept, pairing)
-}
-
-/// The same of a house in which all cells but the rest are settled, and have these values.
-#[inline(always)]
+/// Decides what is kept of the sets of a house in which all cells but the rest are settled, and have these values. Says whether
+/// anything may be struck, or that no filling without repeat is left.
 fn keep_settled(
     values: u8,
     settled: u32,
@@ -93,6 +63,35 @@ fn keep_settled(
     ensures room { pairing.new.room ≡ pairing.old.room }
 {
     let (counts, is_struck) = strike_settled(values, settled, rest, kept);
+    keep_counted(values, counts, settled, rest, kept, is_struck, pairing)
+}
+
+/// The same where the values of settled cells are struck from the rest, and the values of all cells are counted. Says whether
+/// anything may be struck, or was before.
+#[inline(always)]
+pub(crate) fn keep_counted(
+    values: u8,
+    counts: Counts,
+    settled: u32,
+    rest: &[u8],
+    kept: &mut [u32],
+    is_struck: bool,
+    pairing: &mut Pairing,
+) -> Option<bool>
+    requires few { values ≤ max_values }
+    requires square { length kept.old ≡ values }
+    requires counts { AreAllCounts kept.old counts.some counts.single counts.shared }
+    requires settled { AreSettledCells kept.old rest.now settled }
+    requires rest { IsRest values kept.old rest.now }
+    requires lone { AreLone values kept.old settled }
+    requires outside { AreMetOutside kept.old rest.now settled }
+    requires room { values ≤ pairing.old.room }
+    ensures decided { IfSome result (λ b. KeepsFillings values kept.old kept.new) }
+    ensures same { result ≡ Some false → (kept.new ≡ kept.old) × (is_struck ≡ false) }
+    ensures none { IfNone result (KeepsFillings values kept.old (replicate values 0)) }
+    ensures others { KeepsOthers rest.now kept.old kept.new }
+    ensures room { pairing.new.room ≡ pairing.old.room }
+{
     let (lone, is_struck) = peel_if_open(values, counts, settled, rest, kept, is_struck);
     keep_unless_whole(values, lone, rest, kept, is_struck, pairing)
 }
@@ -173,45 +172,30 @@ fn keep_paired(values: u8, lone: u32, rest: &[u8], paired: &[u8], kept: &mut [u3
     ensures same { result ≡ false → kept.new ≡ kept.old }
     ensures others { KeepsOthers rest.now kept.old kept.new }
 {
-    let mut reach_space = [0u32; MANY];
-    let reach = &mut reach_space[..usize::from(values)];
-    write_leads(kept, rest, paired, reach);
-    if lie_on_rounds(reach, paired, others_below(values, lone)) {
+    let mut leads_space = [0u32; MANY];
+    let leads = &mut leads_space[..usize::from(values)];
+    write_leads(kept, rest, paired, leads);
+    let mut parts_space = [u32::MAX; MANY];
+    let parts = &mut parts_space[..usize::from(values)];
+    if !write_parts(leads, others_below(values, lone), parts) {
         return false;
     }
-    close_under_steps(reach);
-    keep_reached(values, rest, paired, reach, kept);
+    keep_parts(rest, paired, parts, kept);
     true
 }
 
-/// Keeps of each set of the rest the values that reach the cell's own.
-fn keep_reached(values: u8, rest: &[u8], mates: &[u8], reach: &[u32], kept: &mut [u32])
-    requires few { values ≤ max_values }
-    requires reached { length reach.now ≡ values }
-    requires rest { IsRest values kept.old rest.now }
-    requires paired { IsPaired values kept.old rest.now mates.now }
+/// Keeps of each set of the rest the values of the part that the cell's own value is in.
+fn keep_parts(rest: &[u8], mates: &[u8], parts: &[u32], kept: &mut [u32])
+    requires rest_in { AreCellsOf kept.old rest.now }
+    requires different { AreDifferent rest.now }
+    requires as_many { length mates.now ≡ length rest.now }
+    requires mates_in { AreCellsOf parts.now mates.now }
     ensures as_many { length kept.new ≡ length kept.old }
-    ensures bits { KeepsReaching values rest.now mates.now reach.now kept.old kept.new }
+    ensures bits { KeepsParts rest.now mates.now parts.now kept.old kept.new }
     ensures others { KeepsOthers rest.now kept.old kept.new }
 {
     for i in 0..rest.len() {
         let cell = usize::from(rest[i]);
-        kept[cell] = reaching(values, kept[cell], usize::from(mates[i]), reach);
+        kept[cell] = both(kept[cell], parts[usize::from(mates[i])]);
     }
-}
-
-/// The values of the set that reach the value `own`.
-fn reaching(values: u8, set: u32, own: usize, reach: &[u32]) -> u32
-    requires few { values ≤ max_values }
-    requires reached { length reach.now ≡ values }
-    requires own_in { own < values }
-    ensures { (v : ℕ) → v < values → is_set result v ≡ (is_set set v && has_in reach.now v own) }
-{
-    let mut kept = 0u32;
-    let mut from = 0;
-    while let Some(value) = next_bit(set, from, usize::from(values)) {
-        kept = with_bit_if(kept, value, has_bit(reach[value], own as u8));
-        from = value + 1;
-    }
-    kept
 }

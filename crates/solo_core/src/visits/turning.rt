@@ -1,78 +1,75 @@
-//! Whether values lead to one another.
+//! Values that lead to one another, by spreads.
 #![tactic(auto, using(crate::proofs::LawSets::turning_laws))]
 
-ghost use Rattle.std.specs.Prelude.{◌≡◌, ◌<◌, ◌≤◌, true, length};
+ghost use Rattle.std.specs.Prelude.{◌≡◌, ℕ, ◌<◌, ◌≤◌, true, length};
 ghost use Rattle.grid_core.specs.Candidates.{max_values};
-ghost use Rattle.solo_core.specs.Common.{has_in};
-ghost use Rattle.solo_core.specs.PeeledHouses.{AreCellsOf};
-ghost use Rattle.solo_core.specs.Ways.{ComesAfter, ComesBefore, LiesOnRounds, StaysBefore};
+ghost use Rattle.solo_core.specs.Common.{has_bit as is_set, has_in};
+ghost use Rattle.solo_core.specs.Ways.{AreWholeParts, IsPart, IsSpreadAfter, IsSpreadBefore, StaysBefore};
 
-use crate::visits::bits::{next_bit, with_bit, with_bit_if};
+use crate::visits::bits::{last_bit, with_bit, with_new_bit, without, without_bit};
 
-/// Whether each of these values leads to the first one and back, as far as that is found soon. Mates alone lead on.
-pub(crate) fn lie_on_rounds(leads: &[u32], mates: &[u8], all: u32) -> bool
+/// The values that the root leads to and that lead back to it. The values that are left have all of them.
+pub(crate) fn part_of(leads: &[u32], root: usize, left: u32) -> u32
     requires few { length leads.now ≤ max_values }
-    requires mates_in { AreCellsOf leads.now mates.now }
-    ensures { result ≡ true → LiesOnRounds (length leads.now) (has_in leads.now) all }
+    requires left { AreWholeParts (length leads.now) (has_in leads.now) left }
+    requires root { is_set left root ≡ true }
+    ensures { IsPart (length leads.now) (has_in leads.now) root result }
 {
-    let Some(root) = next_bit(all, 0, leads.len()) else {
-        return false;
-    };
-    come_after(leads, root, all) && come_before(leads, mates, root, all)
+    let after = spread_after(leads, root, left);
+    spread_before(leads, root, after)
 }
 
-/// Whether there is a way from the root to each of these values.
-fn come_after(leads: &[u32], root: usize, all: u32) -> bool
+/// The values that the root leads to over those that are left.
+fn spread_after(leads: &[u32], root: usize, left: u32) -> u32
     requires few { length leads.now ≤ max_values }
-    requires root_in { root < length leads.now }
-    ensures { result ≡ true → ComesAfter (length leads.now) (has_in leads.now) root all }
+    requires left { (v : ℕ) → is_set left v ≡ true → v < length leads.now }
+    requires root { is_set left root ≡ true }
+    ensures { IsSpreadAfter (length leads.now) (has_in leads.now) root left result }
 {
     let mut after = with_bit(0, root);
     let mut done = 0;
-    for _step in 0..leads.len() {
-        let Some(value) = next_bit(after & !done, 0, leads.len()) else {
-            return false;
-        };
-        done = with_bit(done, value);
-        after |= leads[value];
-        if all & !after == 0 {
-            return true;
+    while let Some(value) = last_bit(without(after, done)) {
+        done = with_new_bit(done, value);
+        after |= leads[value] & left;
+        if after == left {
+            return after;
         }
     }
-    false
+    after
 }
 
-/// Whether there is a way to the root from each of these values, as far as that is found soon.
-fn come_before(leads: &[u32], mates: &[u8], root: usize, all: u32) -> bool
+/// Those of the values that lead to the root over them.
+fn spread_before(leads: &[u32], root: usize, after: u32) -> u32
     requires few { length leads.now ≤ max_values }
-    requires mates_in { AreCellsOf leads.now mates.now }
-    requires root_in { root < length leads.now }
-    ensures { result ≡ true → ComesBefore (length leads.now) (has_in leads.now) root all }
+    requires after { (v : ℕ) → is_set after v ≡ true → v < length leads.now }
+    requires root { is_set after root ≡ true }
+    ensures { IsSpreadBefore (length leads.now) (has_in leads.now) root after result }
 {
     let mut before = with_bit(0, root);
-    for _turn in 0..mates.len() {
-        let more = spread(leads, mates, before);
-        if all & !more == 0 {
-            return true;
-        }
-        if more == before {
-            return false;
+    loop {
+        let more = spread(leads, after, before);
+        if more == before || more == after {
+            return more;
         }
         before = more;
     }
-    false
 }
 
-/// The values, and each mate that leads to one of them or of the mates before it.
-fn spread(leads: &[u32], mates: &[u8], before: u32) -> u32
+/// The values, and each of the others that leads to one of them or of those before it.
+fn spread(leads: &[u32], after: u32, before: u32) -> u32
     requires few { length leads.now ≤ max_values }
-    requires mates_in { AreCellsOf leads.now mates.now }
-    ensures { StaysBefore (length leads.now) (has_in leads.now) before result }
+    requires after { (v : ℕ) → is_set after v ≡ true → v < length leads.now }
+    requires before { (v : ℕ) → is_set before v ≡ true → v < length leads.now }
+    ensures grows { before ≤ result }
+    ensures stays { StaysBefore (length leads.now) (has_in leads.now) after before result }
 {
     let mut more = before;
-    for i in 0..mates.len() {
-        let value = usize::from(mates[i]);
-        more = with_bit_if(more, value, leads[value] & more != 0);
+    let mut left = without(after, before);
+    while let Some(value) = last_bit(left) {
+        left = without_bit(left, value);
+        if leads[value] & more != 0 {
+            more = with_new_bit(more, value);
+        }
     }
     more
 }

@@ -1,8 +1,19 @@
-use Rattle.std.proofs.Common.{arith}
-use Rattle.solo_core.proofs.TurnLemmas.{before-step}
+use Rattle.solo_core.proofs.Common.{arith}
+use Rattle.solo_core.proofs.TurnLemmas.{back-more, back-skip}
 use Rattle.solo_core.proofs.visits.turning.spread.Goals as goal
 
-pub loop-i-preserved : goal.loop-i-preserved
-loop-i-preserved c = λ root b.
-    before-step c.args.leads.now root _ (rw c.from-value.ensures (c.requires.mates_in c.loop-i.i (omega arith))) _ _ (c.loop-i.invariant root b) (omega arith)
-    c.with_bit_if-more.ensures
+pub loop-value-preserved-then-leads-value-ne0 : goal.loop-value-preserved-then-leads-value-ne0
+loop-value-preserved-then-leads-value-ne0 c = record {
+  grows = omega (arith, c.loop-value.invariant.grows, c.with_new_bit-more.ensures.grows);
+  back =
+      back-more c.args.leads.now c.loop-value.invariant.back c.in-Some.value c.in-Some.ensures.1 _ c.without_bit-left.ensures.bits
+      c.requires.after c.requires.before (omega arith) c.if-leads-value-ne0.true c.with_new_bit-more.ensures.bits;
+}
+
+pub loop-value-preserved : goal.loop-value-preserved
+loop-value-preserved c = record {
+  grows = c.loop-value.invariant.grows;
+  back =
+      back-skip c.args.leads.now c.loop-value.invariant.back c.in-Some.value c.in-Some.ensures.1 _ c.without_bit-left.ensures.bits
+      c.if-leads-value-ne0.false;
+}

@@ -1,5 +1,12 @@
-use Rattle.solo_core.proofs.Common.{StaysBefore, has_in, length}
+use Rattle.solo_core.proofs.Common.{has_in, length, ◌≤◌}
+use Rattle.solo_core.proofs.TurnLemmas.{IsSpreadingBack}
 use Rattle.solo_core.proofs.visits.turning.spread.Given as goal
 
-abbrev pub invariant-loop-i : goal.invariant-loop-i
-invariant-loop-i l = StaysBefore (length l.leads) (has_in l.leads) l.fn.before l.more
+abbrev pub invariant-loop-value : goal.invariant-loop-value
+invariant-loop-value l = record {
+  grows : l.before ≤ l.more;
+  back : IsSpreadingBack (length l.leads) (has_in l.leads) l.after l.before l.more l.left;
+}
+
+abbrev pub decreases-loop-value : goal.decreases-loop-value
+decreases-loop-value l = l.left
