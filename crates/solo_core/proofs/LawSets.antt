@@ -9,7 +9,7 @@ use Rattle.solo_core.proofs.MateLemmas.{goes_on_free, begun-none, goes_on_swappe
 use Rattle.solo_core.proofs.BitLemmas.{bits_joined, single_bit}
 use Rattle.solo_core.proofs.NoteLemmas.{room-made}
 use Rattle.solo_core.proofs.SpotLemmas.{spot-1, spot-2, spot-3, spot-4}
-use Rattle.solo_core.proofs.TurnLemmas.{back-done, back-none, one-part, part-spread, parts-all, parts-none, spread-done, spread-left, spreading-none, up-all, up-more, up-none, up-same}
+use Rattle.solo_core.proofs.PartLemmas.{back-done, back-none, one-part, part-spread, parts-all, parts-none, spread-done, spread-left, spreading-none, up-all, up-more, up-none, up-same}
 
 pub ruleset check_laws = (given_first, len_of, number_at, seen_none, seen_more, seen_again, seen_all, fine_more)
 

@@ -1,6 +1,7 @@
 pub mod Common
 pub mod BitLemmas
 pub mod WayLemmas
+pub mod PartLemmas
 pub mod TurnLemmas
 pub mod RepeatLemmas
 pub mod HouseLemmas

@@ -57,6 +57,9 @@ module _ {bits : ℕ} {list : List ℕ} (l : ListsBits bits list) where
   }
 
   module _ {count left : ℕ} {rest : List ℕ} (a : AreLeft list count left rest) where
+    pub left-in : (n : ℕ) → ((k : ℕ) → has_bit bits k ≡ true → k < n) → (k : ℕ) → has_bit left k ≡ true → k < n
+    left-in n within k on = let w = a.inside k on in rw w.3 at (within _ (l.set w.0 w.2))
+
     -- the least that is left comes next
     pub left-next : (k : ℕ) → has_bit left k ≡ true → NoneIsSet left 0 k → (count < length list) × (k ≡ slice_index list count)
     left-next k on none =

@@ -1,11 +1,8 @@
 -- Spreads from a value over what it leads to, and back: the values that come out are its part.
-use Rattle.solo_core.proofs.Common.{AreAlone, AreLone, AreParts, AreWholeParts, Bool, ComesAfter, ComesBefore, GoesTo, IsOutside, IsPaired, IsPart, IsRest, IsSpreadAfter, IsSpreadBefore, IsWay, IsWritten, KeepsFillings, KeepsOthers, KeepsParts, LeadByMates, LiesOnRounds, List, PairsCells, StaysBefore, [], and-false, and_le_r, and_parts, ap, arith, bit_and, bit_or, both-bits, cases_Bool, cases_eq, cases_lt, common_steps, cond, either-bits, eq-eqb, eqb, eqb-true, false, false_from_ne_true, get_or-map-range_with_len, get_or-replicate, get_or-take, get_or_past, has_bit, has_in, inl, inr, is_struck, length, length-map-range_with_len, length-take, lt-ltb, ltb, map, meets, nat_tests, ne_eqb, none_missed, not, not-true, or_cases, or_left, or_right, range_with_len, refl, replicate, slice_index, suc, sym, take, true, true_from_ne_false, true≢false, zero-bits, ℕ, ◌&&◌, ◌+◌, ◌<◌, ◌^◌, ◌||◌, ◌∙◌, ◌∷◌, ◌≡◌, ◌≤◌, ◌⊎◌}
-use Rattle.std.proofs.lemmas.Nat.Bits.{bit_at_ones}
-use Rattle.solo_core.specs.Common.{IsFirstSet, ltb-true}
+use Rattle.solo_core.proofs.Common.{AreParts, AreWholeParts, Bool, ComesAfter, ComesBefore, GoesTo, IsPart, IsSpreadAfter, IsSpreadBefore, IsWay, IsWritten, LiesOnRounds, List, StaysBefore, [], and-false, and_le_r, and_parts, ap, arith, bit_and, bit_or, both-bits, cases_Bool, cases_eq, cases_lt, common_steps, either-bits, eq-eqb, eqb, eqb-true, false, false_from_ne_true, has_bit, has_in, inl, inr, length, nat_tests, ne_eqb, not, or_cases, or_right, refl, slice_index, sym, true, true_from_ne_false, true≢false, zero-bits, ℕ, ◌&&◌, ◌+◌, ◌<◌, ◌^◌, ◌||◌, ◌∙◌, ◌∷◌, ◌≡◌, ◌≤◌}
+use Rattle.solo_core.specs.Common.{IsFirstSet}
 use Rattle.solo_core.proofs.BitLemmas.{none_in_zero, some_set}
-use Rattle.solo_core.proofs.MateLemmas.{decided_by_all, house_mates, house_pairing, in_or_out, mates-alone, mates-rest, shown_by_pairing, struck_from_none}
-use Rattle.solo_core.proofs.WayLemmas.{IsTransitiveClosure, Moves, moves, no_step, one_step, reach_over, reached_over, two_ways, way_reaches}
-use Rattle.solo_core.proofs.PeelLemmas.{meets-here}
+use Rattle.solo_core.proofs.WayLemmas.{no_step, one_step, two_ways}
 
 -- ---- spreads from the root, over the values that are left: of the values that are done, what they lead to is there
 pub record IsSpreading (n : ℕ) (leads : ℕ → ℕ → Bool) (root left after done : ℕ) : Type 0 where

@@ -10,7 +10,7 @@ ghost use Rattle.solo_core.specs.Common.{has_bit as is_set, has_in};
 ghost use Rattle.solo_core.specs.OpenHouses.{AreWholeOutside, IsOpenHouse, IsVisitedOpen, ListsBits};
 ghost use Rattle.solo_core.specs.PeeledHouses.{AreAllCounts, AreLone, AreMetOutside, AreSettledCells, IsPeeled, IsRest, KeepsOthers};
 
-use crate::visits::bits::{next_bit, others_below, with_bit, without};
+use crate::visits::bits::{first_bit, others_below, with_bit, without};
 use crate::visits::houses::keep_counted;
 use crate::visits::open::OpenHouse;
 use crate::visits::peel::Counts;
@@ -97,7 +97,7 @@ fn strike_open(
     let mut counts = Counts::of_settled(settled);
     let (mut count, mut is_struck) = (0, false);
     let mut left = house.cells;
-    while let Some(cell) = next_bit(left, 0, usize::from(values)) {
+    while let Some(cell) = first_bit(left) {
         left = without(left, with_bit(0, cell));
         rest[count] = cell as u8;
         count += 1;

@@ -2,10 +2,10 @@ use Rattle.solo_core.proofs.Common.{AreSettledBut, arith, bit_and, both-bits, le
 use Rattle.solo_core.specs.Bits.{NoneIsSet}
 use Rattle.solo_core.specs.OpenHouses.{ListsBits}
 use Rattle.solo_core.proofs.OpenLemmas.{one-bit, open-settled}
-use Rattle.solo_core.proofs.OpenListLemmas.{left-first, left-more, left-next, left-none, set_below, set_below-few, set_below-lists}
+use Rattle.solo_core.proofs.OpenListLemmas.{left-first, left-in, left-more, left-next, left-none, set_below, set_below-few, set_below-lists}
 use Rattle.solo_core.proofs.SettledLemmas.{AreStruck, struck-counts, struck-first, struck-lone, struck-more, struck-outside, struck-peeled, struck-rest, struck-settled}
 use Rattle.solo_core.proofs.visits.gather.strike_open.Goals as goal
-use Rattle.solo_core.proofs.visits.gather.strike_open.Goals.{After-next_bit, After-of_settled-counts, At-loop-cell}
+use Rattle.solo_core.proofs.visits.gather.strike_open.Goals.{After-of_settled-counts, At-loop-cell}
 
 -- the open cells are listed, and the others are settled
 lists : (c : After-of_settled-counts) → ListsBits c.args.house.cells (set_below c.args.house.cells c.args.values)
@@ -52,13 +52,13 @@ bounds-rest-count c =
     omega (arith, next.0, set_below-few c.args.house.cells c.args.values, i.room, c.requires.room)
 
 -- at the end all open cells are listed, and struck
-taken : (c : At-loop-cell) → NoneIsSet c.loop-cell.left 0 c.args.values
+taken : (c : At-loop-cell) → NoneIsSet c.loop-cell.left 0 32
     → (c.loop-cell.count ≡ length (set_below c.args.house.cells c.args.values)) × (take c.loop-cell.count c.loop-cell.rest ≡ set_below c.args.house.cells c.args.values)
 taken c none =
     let all = set_below-lists c.args.house.cells c.args.values c.requires.house.cells_in in
-    left-none all c.loop-cell.invariant.left c.args.values (λ t lt. c.requires.house.cells_in _ (all.set t lt)) none
+    left-none all c.loop-cell.invariant.left 32 (λ t lt. omega (arith, c.requires.house.cells_in _ (all.set t lt), c.requires.few)) none
 
-struck : (c : At-loop-cell) → NoneIsSet c.loop-cell.left 0 c.args.values
+struck : (c : At-loop-cell) → NoneIsSet c.loop-cell.left 0 32
     → AreStruck c.args.values c.args.settled c.args.sets.now c.loop-cell.sets (set_below c.args.house.cells c.args.values)
     (length (set_below c.args.house.cells c.args.values)) c.loop-cell.counts.some c.loop-cell.counts.single c.loop-cell.counts.shared c.loop-cell.is_struck
 struck c none = rw (taken c none).0 at c.loop-cell.invariant.struck
@@ -66,60 +66,78 @@ struck c none = rw (taken c none).0 at c.loop-cell.invariant.struck
 pub returns-clause-few : goal.returns-clause-few
 returns-clause-few c =
     let d = (goal.at.returns-clause-few c).At-loop-cell in
-    let none = rw c.from.ensures at c.in_default.ensures in
+    let none = c.in_default.ensures in
     omega (arith, (taken d none).0, set_below-few c.args.house.cells c.args.values)
 
 pub returns-clause-listed : goal.returns-clause-listed
 returns-clause-listed c =
     let d = (goal.at.returns-clause-listed c).At-loop-cell in
     let b = (goal.at.returns-clause-listed c).After-of_settled-counts in
-    let none = rw c.from.ensures at c.in_default.ensures in
+    let none = c.in_default.ensures in
     rw (taken d none).1 (lists b)
 
 pub returns-clause-peeled : goal.returns-clause-peeled
 returns-clause-peeled c =
     let d = (goal.at.returns-clause-peeled c).At-loop-cell in
     let b = (goal.at.returns-clause-peeled c).After-of_settled-counts in
-    let none = rw c.from.ensures at c.in_default.ensures in
+    let none = c.in_default.ensures in
     struck-peeled (settled b) (struck d none)
 
 pub returns-clause-counts : goal.returns-clause-counts
 returns-clause-counts c =
     let d = (goal.at.returns-clause-counts c).At-loop-cell in
     let b = (goal.at.returns-clause-counts c).After-of_settled-counts in
-    let none = rw c.from.ensures at c.in_default.ensures in
+    let none = c.in_default.ensures in
     struck-counts (settled b) (struck d none)
 
 pub returns-clause-settled : goal.returns-clause-settled
 returns-clause-settled c =
     let d = (goal.at.returns-clause-settled c).At-loop-cell in
     let b = (goal.at.returns-clause-settled c).After-of_settled-counts in
-    let none = rw c.from.ensures at c.in_default.ensures in
+    let none = c.in_default.ensures in
     rw (taken d none).1 (struck-settled (settled b) (struck d none))
 
 pub returns-clause-rest : goal.returns-clause-rest
 returns-clause-rest c =
     let d = (goal.at.returns-clause-rest c).At-loop-cell in
     let b = (goal.at.returns-clause-rest c).After-of_settled-counts in
-    let none = rw c.from.ensures at c.in_default.ensures in
+    let none = c.in_default.ensures in
     rw (taken d none).1 (struck-rest (settled b) (struck d none))
 
 pub returns-clause-lone : goal.returns-clause-lone
 returns-clause-lone c =
     let d = (goal.at.returns-clause-lone c).At-loop-cell in
     let b = (goal.at.returns-clause-lone c).After-of_settled-counts in
-    let none = rw c.from.ensures at c.in_default.ensures in
+    let none = c.in_default.ensures in
     struck-lone (settled b) (struck d none) (omega arith)
 
 pub returns-clause-outside : goal.returns-clause-outside
 returns-clause-outside c =
     let d = (goal.at.returns-clause-outside c).At-loop-cell in
     let b = (goal.at.returns-clause-outside c).After-of_settled-counts in
-    let none = rw c.from.ensures at c.in_default.ensures in
+    let none = c.in_default.ensures in
     rw (taken d none).1 (struck-outside (settled b) (struck d none))
 
 pub returns-clause-others : goal.returns-clause-others
 returns-clause-others c =
     let d = (goal.at.returns-clause-others c).At-loop-cell in
-    let none = rw c.from.ensures at c.in_default.ensures in
+    let none = c.in_default.ensures in
     rw (taken d none).1 (struck d none).narrowed.others
+
+pub bounds-sets-cell : goal.bounds-sets-cell
+bounds-sets-cell c =
+    let i = c.loop-cell.invariant in
+    let b = (goal.at.bounds-sets-cell c).After-of_settled-counts in
+    omega (arith, left-in (lists b) i.left c.args.values c.requires.house.cells_in c.in-Some.cell c.in-Some.ensures.2, c.requires.square, i.struck.narrowed.as_many)
+
+pub bounds-sets-cell-in-Some : goal.bounds-sets-cell-in-Some
+bounds-sets-cell-in-Some c =
+    let i = c.loop-cell.invariant in
+    let b = (goal.at.bounds-sets-cell-in-Some c).After-of_settled-counts in
+    omega (arith, left-in (lists b) i.left c.args.values c.requires.house.cells_in c.in-Some.cell c.in-Some.ensures.2, c.requires.square, i.struck.narrowed.as_many)
+
+pub bounds-sets-cell-in-Some-2 : goal.bounds-sets-cell-in-Some-2
+bounds-sets-cell-in-Some-2 c =
+    let i = c.loop-cell.invariant in
+    let b = (goal.at.bounds-sets-cell-in-Some-2 c).After-of_settled-counts in
+    omega (arith, left-in (lists b) i.left c.args.values c.requires.house.cells_in c.in-Some.cell c.in-Some.ensures.2, c.requires.square, i.struck.narrowed.as_many)

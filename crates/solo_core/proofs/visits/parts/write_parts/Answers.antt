@@ -1,4 +1,4 @@
-use Rattle.solo_core.proofs.TurnLemmas.{parts-more}
+use Rattle.solo_core.proofs.PartLemmas.{parts-more}
 use Rattle.solo_core.proofs.visits.parts.write_parts.Goals as goal
 
 pub loop-root-preserved : goal.loop-root-preserved

@@ -1,5 +1,5 @@
 use Rattle.solo_core.proofs.Common.{has_in, length, ◌-◌}
-use Rattle.solo_core.proofs.TurnLemmas.{ArePartsBut}
+use Rattle.solo_core.proofs.PartLemmas.{ArePartsBut}
 use Rattle.solo_core.proofs.visits.parts.write_parts.Given as goal
 
 abbrev pub invariant-loop-root : goal.invariant-loop-root

@@ -1,5 +1,5 @@
 use Rattle.solo_core.proofs.Common.{arith}
-use Rattle.solo_core.proofs.TurnLemmas.{back-more, back-skip}
+use Rattle.solo_core.proofs.PartLemmas.{back-more, back-skip}
 use Rattle.solo_core.proofs.visits.turning.spread.Goals as goal
 
 pub loop-value-preserved-then-leads-value-ne0 : goal.loop-value-preserved-then-leads-value-ne0

@@ -1,5 +1,5 @@
 use Rattle.solo_core.proofs.Common.{has_in, length, ◌≤◌}
-use Rattle.solo_core.proofs.TurnLemmas.{IsSpreadingBack}
+use Rattle.solo_core.proofs.PartLemmas.{IsSpreadingBack}
 use Rattle.solo_core.proofs.visits.turning.spread.Given as goal
 
 abbrev pub invariant-loop-value : goal.invariant-loop-value

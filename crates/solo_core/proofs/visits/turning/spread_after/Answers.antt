@@ -1,5 +1,5 @@
 use Rattle.solo_core.proofs.Common.{and_parts, has_bit, has_in, not, sym, true, ◌∙◌, ◌≡◌}
-use Rattle.solo_core.proofs.TurnLemmas.{spread-left, spreading-more, spreading-none}
+use Rattle.solo_core.proofs.PartLemmas.{spread-left, spreading-more, spreading-none}
 use Rattle.solo_core.proofs.visits.turning.spread_after.Goals as goal
 use Rattle.solo_core.proofs.visits.turning.spread_after.Goals.{After-with_new_bit-done}
 

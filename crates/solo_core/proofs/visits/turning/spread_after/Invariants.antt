@@ -1,5 +1,5 @@
 use Rattle.solo_core.proofs.Common.{has_in, length, ◌-◌, ◌^◌}
-use Rattle.solo_core.proofs.TurnLemmas.{IsSpreading}
+use Rattle.solo_core.proofs.PartLemmas.{IsSpreading}
 use Rattle.solo_core.proofs.visits.turning.spread_after.Given as goal
 
 abbrev pub invariant-loop-value : goal.invariant-loop-value

@@ -1,5 +1,5 @@
 use Rattle.solo_core.proofs.Common.{has_in}
-use Rattle.solo_core.proofs.TurnLemmas.{up-none}
+use Rattle.solo_core.proofs.PartLemmas.{up-none}
 use Rattle.solo_core.proofs.visits.turning.spread_before.Goals as goal
 
 pub loop-before-init : goal.loop-before-init

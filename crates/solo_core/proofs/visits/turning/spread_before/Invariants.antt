@@ -1,5 +1,5 @@
 use Rattle.solo_core.proofs.Common.{has_in, length, ◌-◌, ◌^◌}
-use Rattle.solo_core.proofs.TurnLemmas.{IsSpreadingUp}
+use Rattle.solo_core.proofs.PartLemmas.{IsSpreadingUp}
 use Rattle.solo_core.proofs.visits.turning.spread_before.Given as goal
 
 abbrev pub invariant-loop-before : goal.invariant-loop-before
