@@ -6,7 +6,8 @@
 - Tables that stand in two documents agree: words, limits, commands and statuses of README.md and docs/FORMATS.md, and those of
   README.md and the manual page, docs/puzzles.1. README.md has the number of wrong bodies. The minutes of docs/CONTRIBUTING.md
   are the sums of the gate's table in bench/README.md. The numbers of docs/FIFTH_GAME.md are those of the tree.
-- Each example of docs/CALLING.md stands in the file that is named above it.
+- Each example of docs/CALLING.md stands in the file that is named above it. Each function of a step of a run, in
+  docs/ARCHITECTURE.md, stands in a file that is named beside it.
 - A line has at most 130 columns and a sentence at most 25 words, outside of tables, code and the theorem that is quoted.
 - What docs/DECISIONS.md and docs/PROOF.md name in code marks is in the crates, or a place, a word or a game of the program, but
   behind *Tried* and *Weighed*.
@@ -197,6 +198,17 @@ def examples():
                 if code not in (TOP / place).read_text())
 
 
+def steps():
+    """The functions of the steps of a run, in docs/ARCHITECTURE.md, that don't stand where it says."""
+    for step, cells in rows("docs/ARCHITECTURE.md", "## The way of a run").items():
+        places = re.findall(r"`(crates/[^`]+)`", cells[-1])
+        files = [file for place in places for file in [TOP / place, *(TOP / place).rglob("*.rt")] if file.is_file()]
+        words = {word for file in files for word in NAME.findall(file.read_text())}
+        for name in re.findall(r"`(?:\w+::)?(\w+)!?`", cells[0]) if places else []:
+            if name not in words:
+                yield f"docs/ARCHITECTURE.md: step {step.partition('.')[0]}: no {name} in {' or '.join(places)}"
+
+
 def stale(path):
     """The names in a document that are nowhere, but for those that are told of other ways."""
     code = [file for place in ("src/**/*.rt", "specs/*.antt", "proofs/*.antt") for file in TOP.glob(f"crates/*/{place}")]
@@ -243,7 +255,7 @@ def all_faults():
     yield from (f"{name}: README.md has {here}, docs/puzzles.1 {there}" for name, here, there in by_manual() if here != there)
     yield from (fault for name in ("DECISIONS.md", "PROOF.md") for fault in stale(TOP / "docs" / name))
     yield from doubles(definitions(), TWICE)
-    yield from (fault for look in (numbers, examples, scripts) for fault in look())
+    yield from (fault for look in (numbers, examples, steps, scripts) for fault in look())
 
 
 def main():

@@ -4,6 +4,7 @@
 usage: fifth_game.py [--write]
 
 Prints each step of the table with its files and lines, and what isn't so in the document; the exit status is 1 if anything is.
+It has to name each file of commands and puzzles_c, beside those of Tents alone, in which Tents have a case.
 With --write the document gets the numbers.
 """
 import argparse
@@ -37,6 +38,9 @@ STEPS = {
           "maker_core/proofs/laws/fillings_of_tents_are_solutions/*"),
     "10": ("commands/src/games/tents.rt", "commands/specs/TentsFacts.antt", "commands/proofs/games/tents/**/*"),
 }
+ARMS = ("commands", "puzzles_c")
+CASE = re.compile(r"(?<![A-Za-z])[Tt]ents?(?![a-z])|(?<![A-Za-z])Tents?[A-Z]|[a-z]Tents")
+NO_CASE = re.compile(r" *(--|//|(pub(\(crate\))? |ghost |unfoldable )*use |(pub(\(crate\))? )?mod )")
 
 
 def counted(patterns):
@@ -53,6 +57,20 @@ def left_out():
         is_code = file.suffix in (".rt", ".antt") and place.parts[1] != "out"
         if is_code and file not in known and re.search(r"(?i)(^|[/_])tents?([A-Z_/.]|$)", str(place)):
             yield f"{place}: a file of Tents of no step"
+
+
+def unnamed(text):
+    """The files of the crates ARMS with a case of Tents beside its own files, which the document doesn't name: a file of the
+    kit's own name by its folder, the function."""
+    known = {file for patterns in STEPS.values() for pattern in patterns for file in (TOP / "crates").glob(pattern)}
+    for file in sorted(file for crate in ARMS for file in (TOP / "crates" / crate).rglob("*.*t*")):
+        parts = file.relative_to(TOP / "crates").parts
+        if file.suffix not in (".rt", ".antt") or parts[1] not in ("src", "specs", "proofs") or file in known or file.stem == "Lib":
+            continue
+        lines = [line for line in file.read_text(encoding="utf-8").splitlines() if not NO_CASE.match(line)]
+        name = file.parent.name if file.stem in ("Answers", "Invariants") else file.stem
+        if any(CASE.search(line) for line in lines) and not re.search(rf"\b{name}\b", text):
+            yield f"{'/'.join(parts)}: it has a case of Tents, and docs/{DOCUMENT.name} doesn't name it"
 
 
 def with_counts(text):
@@ -77,6 +95,7 @@ def faults():
     if text != with_counts(text):
         yield f"docs/{DOCUMENT.name}: numbers that aren't those of the tree: python/run tests/tree/fifth_game.py --write mends them"
     yield from left_out()
+    yield from unnamed(text)
 
 
 def main():

@@ -93,9 +93,11 @@ def words() -> Asked:
         form.error(f"a title has at most {MOST_TITLE} letters")
     chapters: List[Chapter] = given.chapters or [*map(chapter, DEFAULT)]
     games = list(dict.fromkeys(one.game for one in chapters))
-    return Asked(given.book, sorted(chapters, key=lambda one: games.index(one.game)), games, title, texts,
-                 read_front(given.front) if given.front else "", Sheet(PAPERS[given.paper], given.gutter, given.bare, given.large),
-                 given.right, given.multiple, given.svg, seed, given.symmetric, given.program, given.seconds)
+    return Asked(book=given.book, chapters=sorted(chapters, key=lambda one: games.index(one.game)), games=games, title=title,
+                 texts=texts, front=read_front(given.front) if given.front else "",
+                 sheet=Sheet(PAPERS[given.paper], given.gutter, given.bare, given.large), begins_right=given.right,
+                 multiple=given.multiple, svg=given.svg, seed=seed, is_symmetric=given.symmetric, program=given.program,
+                 seconds=given.seconds)
 
 
 def read_front(path: pathlib.Path) -> str:
