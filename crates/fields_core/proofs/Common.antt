@@ -69,12 +69,12 @@ pub use Rattle.fields_core.specs.CountHouse.{AreHouses, AreMet, CountHouse, Coun
 pub use Rattle.fields_core.specs.CountHouse.{no_count_house, one_at_least, one_at_most, rules_of}
 unfoldable pub use Rattle.fields_core.specs.CountHouse.{after_house, houses_below, meets_house, start_of, strikes_of}
 pub use Rattle.fields_core.specs.CountLaws.{count-lawful}
-pub use Rattle.fields_core.specs.Houses.{AreAdded, AreNamed, TestsBelow, bounds_of, house_told, named, places_in_segments, segment_places, sized}
+pub use Rattle.fields_core.specs.Houses.{AddsHouses, AreNamed, IsMeasured, TestsBelow, bounds_of, house_told, houses_of_kinds, longest_of, named, places_in_segments, segment_places}
 pub use Rattle.fields_core.specs.Light.{bulb, bulbs_beside, is_white, light_cells, number_is}
 unfoldable pub use Rattle.fields_core.specs.Light.{black_right, bulb_right, clear, joined_in_column, joined_in_row, lit_right, number_right, sees, sees_bulb}
 unfoldable pub use Rattle.fields_core.specs.Light.{solves_lights, white}
 pub use Rattle.fields_core.specs.LightFaults.{FailsLight, IsLightFault, light_tests}
-pub use Rattle.fields_core.specs.LightHouses.{column_house, light_counts, light_house, light_rules, lit_house, number_house, row_house}
+pub use Rattle.fields_core.specs.LightHouses.{column_house, light_counts, light_house, light_kind, light_rules, lit_house, number_house, row_house}
 unfoldable pub use Rattle.fields_core.specs.LightHouses.{begins_column_run, begins_row_run, column_run, light_houses, row_run, seen_from}
 pub use Rattle.fields_core.specs.LightRuns.{asks, lonely}
 pub use Rattle.fields_core.specs.LightPlanes.{ArePlanesOf}
@@ -94,7 +94,7 @@ unfoldable pub use Rattle.fields_core.specs.Parts.{lies_in, lies_in_first, witho
 pub use Rattle.fields_core.specs.Sweeps.{IsSweep, swept_by}
 pub use Rattle.fields_core.specs.Count.{IsTally, value_stays}
 pub use Rattle.fields_core.specs.TentSolutions.{FailsTents, IsTentFault, tent_tests}
-pub use Rattle.fields_core.specs.TentHouses.{column_of_tents, free_beside, row_of_tents, square_house, tent_counts, tent_house, tent_rules, tree_house}
+pub use Rattle.fields_core.specs.TentHouses.{column_of_tents, free_beside, row_of_tents, square_house, tent_counts, tent_house, tent_kind, tent_rules, tent_span, tree_house}
 unfoldable pub use Rattle.fields_core.specs.TentHouses.{is_barred, tent_houses}
 pub use Rattle.fields_core.specs.TentWaits.{AreTentsWritten, IsFieldOf}
 pub use Rattle.fields_core.specs.TentPairs.{AreIn, tree_beside, tree_count, trees_of}
@@ -111,6 +111,7 @@ pub use Rattle.fields_core.specs.Visits.{AreIdle, AreVisited}
 unfoldable pub use Rattle.fields_core.specs.Visits.{after_visits, without_zeros}
 pub use Rattle.fields_core.specs.declared.count.house.Segment.{Segment}
 pub use Rattle.fields_core.specs.declared.count.name.HouseName.{HouseName}
+pub use Rattle.fields_core.specs.declared.count.name.Measured.{Measured}
 pub use Rattle.fields_core.specs.declared.count.tally.Tally.{Tally}
 pub use Rattle.fields_core.specs.declared.light_up.fault.LightFault.{LightFault}
 pub use Rattle.fields_core.specs.declared.light_up.light_house.LightHouse.{LightHouse}

@@ -1,5 +1,5 @@
 -- Which numbers of ones the fillings of a house have, and what a visit leaves of it.
-use Rattle.fields_core.proofs.Common.{AreDifferent, Bool, Candidates, CountHouse, Fills, Fills-cons, Fills-tail, IsHouse, IsShown, IsTally, IsWithin, Layout, List, Tally, [], add-one, after_house, and-true, and_from, and_parts, ap, arith, bounds_of, cases_Bool, cases_eq, cases_lt, common_steps, cond, count_by, counts_between, distinct-from, eq-eqb, eqb, false, false_from_ne_true, fun_ext, get_or, has_bit, has_place, has_place-at, has_place-here, inl, inr, is_empty, is_open, le-leb, le-ltb, leb-true, length, length-sets_at, longest, ltb-false, max, ne_eqb, nonzeros, not, not-true, not_taken, or_parts, refl, sets_at, sets_at-small, sets_at-value, shown_from_test, slice_index, value_stays, strikes_at-in_scope, strikes_at-place, strikes_by_fillings, strikes_of, suc, sym, take, taken-here, taken-other, test_from_shown, true, true≢false, zero, ℕ, ◌&&◌, ◌*◌, ◌+◌, ◌-◌, ◌<◌, ◌||◌, ◌∙◌, ◌∷◌, ◌≡◌, ◌≤◌, ◌⊎◌}
+use Rattle.fields_core.proofs.Common.{AreDifferent, Bool, Candidates, CountHouse, Fills, Fills-cons, Fills-tail, IsHouse, IsShown, IsTally, IsWithin, Layout, List, Tally, [], after_house, and-true, and_from, and_parts, ap, arith, bounds_of, cases_Bool, cases_eq, cases_lt, common_steps, cond, count_by, counts_between, distinct-from, eq-eqb, eqb, false, false_from_ne_true, fun_ext, get_or, has_bit, has_place, has_place-at, has_place-here, inl, inr, is_empty, is_open, le-leb, le-ltb, leb-true, length, length-sets_at, ltb-false, max, ne_eqb, nonzeros, not, not-true, not_taken, or_parts, refl, sets_at, sets_at-small, sets_at-value, shown_from_test, slice_index, value_stays, strikes_at-in_scope, strikes_at-place, strikes_by_fillings, strikes_of, suc, sym, take, taken-here, taken-other, test_from_shown, true, true≢false, zero, ℕ, ◌&&◌, ◌*◌, ◌+◌, ◌-◌, ◌<◌, ◌||◌, ◌∙◌, ◌∷◌, ◌≡◌, ◌≤◌, ◌⊎◌}
 use Rattle.fields_core.proofs.PlaceLists.{count-at, count-cons, count-none, count-some, num, num-most}
 use Rattle.fields_core.proofs.CellLemmas.{same-truth}
 use Rattle.grid_core.specs.Board.{cells_of, has}
@@ -279,7 +279,7 @@ two-bits zero_in one_in zero low = grind (arith, common_steps, cases_Bool zero_i
 two-bits zero_in one_in (suc zero) low = grind (arith, common_steps, cases_Bool zero_in, cases_Bool one_in)
 two-bits zero_in one_in (suc (suc v)) low = absurd (omega arith)
 
--- What a visit of a count house leaves, and how long the longest house is.
+-- What a visit of a count house leaves.
 
 -- ---- the cells of a house are in the board
 pub cell-in : {cells : ℕ} {house : CountHouse} → IsHouse cells house → {k c : ℕ} → c ≡ slice_index house.places k → k < length house.places → c < cells
@@ -339,12 +339,3 @@ module _ {house : CountHouse} (b : Layout) (is : IsHouse (cells_of b) house) (tw
 
         own : (v : ℕ) → (L place v && not (eqb place place && not (has_bit kept v))) ≡ (has b place v && not (has_place (take (n + 1) house.places) place && strikes_of house (has b) place v))
         own v = grind (arith, common_steps, cases_Bool (has b place v), same, eq-eqb, taken-here house.places lt place here, within place v, keeps v, whole, after v)
-
--- ---- the longest scope is as long as any
-pub longest-none : (scope : ℕ → List ℕ) → 0 ≡ longest scope 0
-unfolding longest
-longest-none scope = refl
-
-pub longest-more : (scope : ℕ → List ℕ) (n : ℕ) → longest scope (n + 1) ≡ max (longest scope n) (length (scope n))
-unfolding longest
-longest-more scope n = rw add-one refl

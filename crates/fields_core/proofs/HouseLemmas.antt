@@ -1,5 +1,5 @@
 -- Count houses: lists, names and tallies of them.
-use Rattle.fields_core.proofs.Common.{AllByRecursion, AreAdded, AreNamed, Black, Bool, Candidates, CountHouse, Extent, HouseName, IsHouse, IsNext, IsTally, Light, LightCell, List, None, Numbered, Option, Segment, Some, Tally, White, [], add-one, any_below, ap, append-nil, ap₂, arith, at_drop_more, bool_byte, cases_Bool, column_places, common_steps, cond, cond-false, cond-true, count_by, count_by-le-length, count_house_of, div-mul-add, drop, drop_all, eq-eqb, eqb, eqb-true, exactly, false, false_from_ne_true, filter, filter-append, get_or, get_or-append_right, get_or-map, get_or-map-range_with_len, get_or_append_left, has_place, has_place-at, has_place-here, houses_below, if_there, is_empty, is_some, is_white, length, length-append, length-map, length-map-range_with_len, list_any, list_any-append, ltb, map, map-append, named, no_count_house, not, number_house, or_right, place-column, places_in_segments, refl, row_places, segment_places, set, sized, slice_get, slice_get-get_or, slice_get_within, slice_index, step, steps, suc, sym, true, white, zero, ℕ, ◌&&◌, ◌*◌, ◌++◌, ◌+◌, ◌-◌, ◌<◌, ◌||◌, ◌∙◌, ◌∷◌, ◌≡◌, ◌≤◌}
+use Rattle.fields_core.proofs.Common.{AllByRecursion, Black, Bool, Candidates, CountHouse, Extent, IsHouse, IsNext, IsTally, Light, LightCell, List, None, Numbered, Option, Segment, Some, Tally, White, [], add-one, any_below, ap, append-nil, ap₂, arith, at_drop_more, bool_byte, cases_Bool, column_places, common_steps, cond, cond-false, cond-true, count_by, count_by-le-length, count_house_of, div-mul-add, drop, drop_all, eq-eqb, eqb, eqb-true, exactly, false, false_from_ne_true, filter, filter-append, get_or, get_or-append_right, get_or-map-range_with_len, get_or_append_left, has_place, has_place-at, has_place-here, houses_below, if_there, is_empty, is_some, is_white, length, length-append, length-map-range_with_len, list_any, list_any-append, ltb, not, number_house, or_right, place-column, places_in_segments, refl, row_places, segment_places, set, slice_get, slice_get-get_or, slice_get_within, slice_index, step, steps, suc, sym, true, white, zero, ℕ, ◌&&◌, ◌*◌, ◌++◌, ◌+◌, ◌-◌, ◌<◌, ◌||◌, ◌∙◌, ◌∷◌, ◌≡◌, ◌≤◌}
 use Rattle.fields_core.proofs.PlaceLists.{count-cons, num}
 
 -- Lists of count houses, as they are made.
@@ -105,63 +105,6 @@ each-empty (c ∷ cells) e (suc k) d lt = each-empty cells (append-empty (segmen
 pub line-cells : (s none : Segment) (places : List ℕ) → segment_places s ≡ places → segment_places none ≡ []
     → places_in_segments (s ∷ none ∷ none ∷ none ∷ []) ≡ places
 line-cells s none places e n = rw (e, n) (append-nil places)
-
--- ---- names that are added one after another
-module _ {K : Type 0} (told : K → ℕ → List CountHouse) where
-  pub added-none : (a : List (HouseName K)) {houses : List CountHouse} → houses ≡ [] → AreAdded told a a houses
-  added-none a e = rw e (sym (append-nil _))
-
-  pub added-more : (a b c : List (HouseName K)) (xs ys : List CountHouse) → AreAdded told a b xs → AreAdded told b c ys → AreAdded told a c (xs ++ ys)
-  added-more a b c xs ys p q = grind (arith, common_steps, map-append)
-
-  -- the name of a house, and no name where there is none
-  pub push-added : (items : List (HouseName K)) (name : HouseName K) {more : List (HouseName K)} {house : CountHouse} {houses : List CountHouse}
-      → more ≡ items ++ name ∷ [] → houses ≡ house ∷ [] → told name.kind name.place ≡ house ∷ [] → name.cells ≡ length house.places
-      → AreAdded told items more houses
-  push-added items name e f g long = grind (arith, common_steps, map-append)
-
-  pub below-added : (f : ℕ → List CountHouse) (old items more : List (HouseName K)) (n : ℕ)
-      → AreAdded told old items (houses_below f n) → AreAdded told items more (f n) → AreAdded told old more (houses_below f (n + 1))
-  below-added f old items more n added one = grind (arith, common_steps, below-more, added-more)
-
-  -- row by row
-  pub none-yet : (f : ℕ → List CountHouse) (items : List (HouseName K)) (w : ℕ) → AreAdded told items items (houses_below f (0 * w))
-  none-yet f items w = let z : 0 * w ≡ 0 = omega arith in rw z (added-none items (below-none f))
-
-  pub next-added : (f : ℕ → List CountHouse) (old items more : List (HouseName K)) (n x : ℕ)
-      → AreAdded told old items (houses_below f (n + x)) → AreAdded told items more (f (n + x)) → AreAdded told old more (houses_below f (n + (x + 1)))
-  next-added f old items more n x added one = let z : n + (x + 1) ≡ n + x + 1 = omega arith in rw z (below-added f old items more (n + x) added one)
-
-  -- names that were made apart, after others
-  pub joined-added : (a b more : List (HouseName K)) {none : List (HouseName K)} (houses : List CountHouse) → none ≡ [] → more ≡ a ++ b → AreAdded told none b houses
-      → AreAdded told a more houses
-  joined-added a b more houses e f added = rw f (map-append (named told) a b ∙ ap (λ l. map (named told) a ++ l) (rw e at added))
-
-  -- of four kinds, each of the numbers below some number
-  pub four-named : {a : List (HouseName K)} (b c d e : List (HouseName K)) → a ≡ [] → (f g h k : ℕ → List CountHouse) {i j l m i' j' l' m' : ℕ}
-      → AreAdded told a b (houses_below f i) → AreAdded told b c (houses_below g j) → AreAdded told c d (houses_below h l) → AreAdded told d e (houses_below k m)
-      → i ≡ i' → j ≡ j' → l ≡ l' → m ≡ m'
-      → AreNamed told e (houses_below f i' ++ (houses_below g j' ++ (houses_below h l' ++ houses_below k m')))
-  four-named {a} b c d e none f g h k p q r s same_i same_j same_l same_m = grind (arith, common_steps, added-more)
-
--- ---- the houses that are named
-pub named-long : {K : Type 0} (told : K → ℕ → List CountHouse) (names : List (HouseName K)) (houses : List CountHouse)
-    → AreNamed told names houses → length names ≡ length houses
-named-long told names houses are = sym (length-map names (named told)) ∙ ap length are ∙ length-map houses sized
-
-named-at : {K : Type 0} (told : K → ℕ → List CountHouse) (names : List (HouseName K)) (houses : List CountHouse) {h : ℕ} (d : HouseName K)
-    → AreNamed told names houses → h < length names → named told (get_or names h d) ≡ sized (count_house_of houses h)
-named-at told names houses {h} d are lt =
-    sym (get_or-map (named told) names h d (sized no_count_house) lt) ∙ ap (λ l. get_or l h (sized no_count_house)) are
-    ∙ get_or-map sized houses h no_count_house (sized no_count_house) (rw (named-long told names houses are) at lt)
-
-pub named-told : {K : Type 0} (told : K → ℕ → List CountHouse) (names : List (HouseName K)) (houses : List CountHouse) {h : ℕ} (d : HouseName K)
-    → AreNamed told names houses → h < length names → told (get_or names h d).kind (get_or names h d).place ≡ count_house_of houses h ∷ []
-named-told told names houses {h} d are lt = ap (λ pair. pair.0) (named-at told names houses d are lt)
-
-pub named-cells : {K : Type 0} (told : K → ℕ → List CountHouse) (names : List (HouseName K)) (houses : List CountHouse) {h : ℕ} (d : HouseName K)
-    → AreNamed told names houses → h < length names → (get_or names h d).cells ≡ length (count_house_of houses h).places
-named-cells told names houses d are lt = ap (λ pair. pair.1) (named-at told names houses d are lt)
 
 -- The cells of a puzzle of Light Up.
 pub cell-at : (p : Light) (c : ℕ) {cell : LightCell} → slice_get p.cells c ≡ Some cell → get_or p.cells c Black ≡ cell

@@ -15,6 +15,8 @@ pub mod TentLines
 pub mod TentCounting
 pub mod TentRuleLemmas
 pub mod VisitLemmas
+pub mod KindLemmas
+pub mod MeasureLemmas
 pub mod TentTreeBoards
 pub mod TentTreeWords
 pub mod TentSquareVisits

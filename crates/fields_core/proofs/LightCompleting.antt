@@ -1,12 +1,10 @@
--- Light Up: names of houses, lonely numbers, and grids that meet each house.
-use Rattle.fields_core.proofs.Common.{AreMet, AreNamed, Black, Bool, CountHouse, HouseName, IsAround, IsGrid, IsLight, IsNext, Light, LightCell, LightHouse, List, None, Numbered, Option, Segment, Some, White, [], all_below-at, all_below-from, and_parts, any_below, any_below-here, any_below-none, any_below-some, ap, append-nil, ap₂, arith, asks, begins_column_run, begins_row_run, black_right, bulb, bulb_right, bulbs_beside, cases_Bool, cases_eq, cases_lt, column_house, column_run, common_steps, cond, count_by, count_by-le-length, count_house_of, eq-eqb, eqb, eqb-true, exactly, false, false_from_ne_true, filter, get_or, get_or_append_left, has_place, has_place-at, houses_below, inl, inr, is_some, is_white, leb-true, length, length-append, light_cells, light_counts, light_house, light_houses, cells_along, line_white, lit_house, lit_right, lonely, lt-ltb, ltb-true, map, meets_house, min, mod-lt, ne_eqb, no_count_house, nonzeros, not, not-true, number_house, number_right, one_at_least, one_at_most, or_cases, or_left, or_right, place-append, place-filter, place-front, places_in_segments, refl, row_house, row_run, run_house, seen_from, sees, sees_bulb, segment_places, slice_index, solves_lights, steps, suc, sym, true, true≢false, white, zero, ℕ, ◌%◌, ◌&&◌, ◌*◌, ◌++◌, ◌+◌, ◌-◌, ◌/◌, ◌<◌, ◌||◌, ◌∙◌, ◌∷◌, ◌≡◌, ◌≤◌}
+-- Light Up: houses by what tells them, lonely numbers, and grids that meet each house.
+use Rattle.fields_core.proofs.Common.{AreMet, Black, Bool, CountHouse, IsAround, IsGrid, IsLight, Light, LightHouse, List, Numbered, Segment, [], all_below-at, all_below-from, and_parts, any_below, any_below-none, any_below-some, ap, append-nil, ap₂, arith, begins_column_run, begins_row_run, black_right, bulb, bulb_right, bulbs_beside, cases_Bool, cases_eq, cases_lt, column_house, column_run, common_steps, cond, count_by, count_by-le-length, eq-eqb, eqb, eqb-true, exactly, false, false_from_ne_true, filter, get_or, has_place, has_place-at, houses_below, inl, inr, leb-true, length, light_cells, light_counts, light_house, light_houses, cells_along, line_white, lit_house, lit_right, lonely, lt-ltb, map, meets_house, mod-lt, ne_eqb, nonzeros, not, not-true, number_house, number_right, one_at_least, one_at_most, or_cases, or_left, or_right, place-append, place-filter, place-front, places_in_segments, refl, row_house, row_run, run_house, seen_from, sees, sees_bulb, segment_places, slice_index, solves_lights, steps, sym, true, true≢false, white, ℕ, ◌%◌, ◌*◌, ◌++◌, ◌+◌, ◌-◌, ◌/◌, ◌<◌, ◌||◌, ◌∙◌, ◌∷◌, ◌≡◌}
 use Rattle.fields_core.proofs.LightHouseLaws.{bulb-in, column-self, lit-from, lit-parts, row-self, small-at, white-in}
 use Rattle.fields_core.proofs.RunLemmas.{column-house-is, lit-lines, row-house-is}
 use Rattle.fields_core.proofs.BesideLemmas.{row-in, whole-cell}
 use Rattle.fields_core.specs.declared.light_up.light_house.LightHouse.TheVariants.{Column, Lit, Number, Row}
-use Rattle.fields_core.specs.LightHouses.{numbered}
-use Rattle.fields_core.proofs.HouseLemmas.{named-cells, named-long, named-told}
-use Rattle.fields_core.proofs.VisitLemmas.{IsAmong, among-back, among-below, among-front, among-met, among-one}
+use Rattle.fields_core.proofs.VisitLemmas.{among-back, among-below, among-front, among-met, among-one}
 use Rattle.fields_core.proofs.PlaceLists.{any-some, count-filter, count-two, ones-bulbs, some-counted}
 use Rattle.fields_core.proofs.LightSeen.{seen-there}
 use Rattle.fields_core.proofs.LightRuleLemmas.{IsLightBoard, column-run-joined, in-column-run, in-row-run, light-board, row-run-joined}
@@ -50,101 +48,6 @@ row-of-place p c some = rw (← whole-cell p.size.w c) at (row-house-is p (c / p
 
 pub column-of-place : (p : Light) (c : ℕ) → 0 < p.size.w → run_house p (c % p.size.w) p.size.w p.size.h (c / p.size.w) ≡ column_house p c
 column-of-place p c some = rw (← whole-cell p.size.w c) at (column-house-is p (c / p.size.w) (mod-lt c some))
-
--- Numbers of Light Up that no grid meets, by the names of the houses.
-
--- ---- a house that is told
-told-one : (b : Bool) (house : CountHouse) {other : CountHouse} → cond b (house ∷ []) [] ≡ other ∷ [] → (b ≡ true) × (house ≡ other)
-told-one true house e = (refl, ap (λ l. count_house_of l 0) e)
-told-one false house e = absurd (omega (arith, ap length e))
-
-number-one : (cell : LightCell) (places : List ℕ) {house : CountHouse} → numbered cell places ≡ house ∷ [] → (n : ℕ) × (cell ≡ Numbered n) × (exactly n places ≡ house)
-number-one White places e = absurd (omega (arith, ap length e))
-number-one Black places e = absurd (omega (arith, ap length e))
-number-one (Numbered n) places e = (n, refl, ap (λ l. count_house_of l 0) e)
-
-asks-number : (cell : LightCell) → asks cell ≡ true → (n : ℕ) × (cell ≡ Numbered n) × (0 < n)
-asks-number White e = absurd (true≢false (sym e))
-asks-number Black e = absurd (true≢false (sym e))
-asks-number (Numbered n) e = (n, refl, ltb-true _ _ e)
-
-asks-black : (p : Light) (c : ℕ) → asks (get_or p.cells c Black) ≡ true → white p c ≡ true → ⊥
-unfolding white
-asks-black p c on is = let w = asks-number (get_or p.cells c Black) on in true≢false (sym is ∙ ap is_white w.1)
-
--- a name asks for what no grid has
-abbrev pub names_lonely : Light → HouseName LightHouse → Bool
-names_lonely p name = asks (get_or p.cells name.place Black) && eqb name.cells 0
-
--- only a number tells the house of a number other than 0 with no cell
-told-asks : (p : Light) (kind : LightHouse) (c n : ℕ) (places : List ℕ) → light_house p kind c ≡ exactly n places ∷ [] → 0 < n → length places ≡ 0
-    → asks (get_or p.cells c Black) ≡ true
-told-asks p Number c n places e some none = grind (arith, common_steps, number-one, lt-ltb)
-told-asks p Row c n places e some none = absurd (omega (arith, ap (λ (h : CountHouse). h.least) (told-one (begins_row_run p c) _ e).1))
-told-asks p Column c n places e some none = absurd (omega (arith, ap (λ (h : CountHouse). h.least) (told-one (begins_column_run p c) _ e).1))
-told-asks p Lit c n places e some none = grind (arith, common_steps, told-one)
-
--- a name that asks for what no grid has is that of a lonely number
-calls-lonely : (p : Light) (kind : LightHouse) (c : ℕ) (house : CountHouse) → light_house p kind c ≡ house ∷ [] → length house.places ≡ 0
-    → asks (get_or p.cells c Black) ≡ true → lonely p c ≡ true
-unfolding begins_row_run begins_column_run
-calls-lonely p Number c house e none on = grind (arith, common_steps, number-one, eq-eqb)
-calls-lonely p Row c house e none on = absurd (asks-black p c on (and_parts _ _ (told-one (begins_row_run p c) _ e).0).0)
-calls-lonely p Column c house e none on = absurd (asks-black p c on (and_parts _ _ (told-one (begins_column_run p c) _ e).0).0)
-calls-lonely p Lit c house e none on = absurd (asks-black p c on (told-one (white p c) _ e).0)
-
--- ---- the names of numbers are the first
-number-few : (cell : LightCell) (places : List ℕ) → length (numbered cell places) ≤ 1
-number-few White places = omega arith
-number-few Black places = omega arith
-number-few (Numbered n) places = omega arith
-
-numbers-few : (p : Light) (n : ℕ) → length (houses_below (number_house p) n) ≤ n
-unfolding houses_below
-numbers-few p zero = omega arith
-numbers-few p (suc n) = grind (arith, common_steps, length-append, number-few, numbers-few p n)
-
-within-front : (front back : List CountHouse) {k : ℕ} → k < length front → k < length (front ++ back)
-within-front front back lt = omega (arith, length-append front back)
-
-abbrev pub no_name : HouseName LightHouse
-no_name = record { kind = Number; place = 0; cells = 0 }
-
-module _ (p : Light) (names : List (HouseName LightHouse)) (are : AreNamed (light_house p) names (light_houses p)) where
-  -- one of the first names is that of the number of a cell
-  number-named : {c n : ℕ} → c < light_cells p → get_or p.cells c Black ≡ Numbered n → 0 < n → length (filter (white p) (steps p.size c 4)) ≡ 0
-      → (k : ℕ) × (k < length names) × (k < light_cells p) × (names_lonely p (get_or names k no_name) ≡ true)
-  unfolding light_houses
-  number-named {c} {n} lt e some none =
-      let house = exactly n (filter (white p) (steps p.size c 4)) in
-      let low : IsAmong house (houses_below (number_house p) (light_cells p)) = among-below _ (number_house p) lt (rw e (among-one _)) in
-      let is : count_house_of (light_houses p) low.number ≡ house = get_or_append_left (houses_below (number_house p) (light_cells p)) _ no_count_house low.number low.within ∙ low.is in
-      let within : low.number < length names =
-      let front : low.number < length (light_houses p) = within-front (houses_below (number_house p) (light_cells p)) _ low.within in
-      omega (arith, front, named-long (light_house p) names (light_houses p) are) in
-      let name = get_or names low.number no_name in
-      let told = named-told (light_house p) names (light_houses p) no_name are within ∙ ap (λ h. h ∷ []) is in
-      let cells = named-cells (light_house p) names (light_houses p) no_name are within ∙ ap (λ (h : CountHouse). length h.places) is ∙ none in
-      (low.number, within, omega (arith, low.within, numbers-few p (light_cells p)), rw (told-asks p name.kind name.place n _ told some none, cells) refl)
-
-  -- where none of the first names asks for what no grid has, no number is lonely
-  pub none-lonely : ((k : ℕ) → k < length names → k < light_cells p → names_lonely p (get_or names k no_name) ≡ false)
-      → any_below (lonely p) (light_cells p) ≡ false
-  none-lonely off = grind (arith, common_steps, false_from_ne_true, any_below-some, and_parts, asks-number, number-named, eqb-true)
-
-  -- one of them that does is that of a lonely number
-  pub some-lonely : (k : ℕ) → IsLight p → k < length names → names_lonely p (get_or names k no_name) ≡ true → any_below (lonely p) (light_cells p) ≡ true
-  some-lonely k lawful lt on =
-      let name = get_or names k no_name in
-      let told = named-told (light_house p) names (light_houses p) no_name are lt in let parts = and_parts _ _ on in
-      let none = sym (named-cells (light_house p) names (light_houses p) no_name are lt) ∙ eqb-true _ _ parts.1 in
-      any_below-here (lonely p) (light_cells p) name.place (place-tells p name.kind name.place lawful (ap length told))
-      (calls-lonely p name.kind name.place _ told none parts.0)
-
-  pub lonely-told : (n : ℕ) (found : Option ℕ) → IsLight p → n ≡ min (length names) (light_cells p)
-      → IsNext (λ k. names_lonely p (get_or names k no_name)) n 0 found → is_some found ≡ any_below (lonely p) (light_cells p)
-  lonely-told n None lawful e next = sym (none-lonely (λ k named cell. next k (omega arith) (omega arith)))
-  lonely-told n (Some k) lawful e next = sym (some-lonely k lawful (omega (arith, next.1)) next.2)
 
 -- A grid of Light Up that meets each house with a cell is a solution exactly if each number above 0 has a white cell beside it.
 module _ (p : Light) (g : List ℕ) (is : IsLight p) (grid : IsGrid (light_cells p) 2 g) (met : AreMet (light_counts p) g) where

@@ -1,5 +1,5 @@
 -- Light Up: words of the cells that a cell sees, and runs that are safe.
-use Rattle.fields_core.proofs.Common.{AreSafe, Bool, Candidates, IsColumnRun, IsLeast, IsRowRun, Layers, Light, List, and-false, and_parts, any_below, any_below-none, any_below-some, ap, arith, bit_of, cases_Bool, common_steps, cond, count_below, count_below-few, count_below-lt, count_below-pos, div-mul-add, eq-eqb, eqb, eqb-true, false, get_or, has, has_bit, inl, inr, joined_in_column, joined_in_row, le-ltb, least_below, least_below-passes, length, length-map, light_cells, line_board, lt-ltb, ltb, ltb-true, map, mod-mul-add, not, not-false, place-in, refl, slice_index, suc, sym, true, true≢false, white, zero, ℕ, ◌%◌, ◌&&◌, ◌*◌, ◌+◌, ◌<◌, ◌∙◌, ◌≡◌, ◌≢◌, ◌≤◌}
+use Rattle.fields_core.proofs.Common.{AreSafe, Bool, Candidates, IsColumnRun, IsLeast, IsRowRun, Layers, Light, List, and-false, and_parts, any_below, any_below-none, any_below-some, ap, arith, bit_of, cases_Bool, common_steps, cond, count_below, count_below-few, count_below-lt, count_below-pos, div-mul-add, eq-eqb, eqb, eqb-true, false, get_or, has, has_bit, inl, inr, joined_in_column, joined_in_row, le-ltb, least_below, least_below-passes, length, length-map, light_cells, line_board, lt-ltb, ltb, ltb-true, map, mod-mul-add, not, not-false, place-in, refl, slice_index, suc, sym, true, true≢false, white, zero, ℕ, ◌%◌, ◌&&◌, ◌*◌, ◌+◌, ◌<◌, ◌∙◌, ◌≡◌, ◌≤◌}
 use Rattle.fields_core.proofs.PlaceLists.{num}
 use Rattle.fields_core.proofs.LightHouseLaws.{column-both, column-next, mul-inj, row-both}
 use Rattle.fields_core.proofs.CellLemmas.{has-at, row-read, second-off}

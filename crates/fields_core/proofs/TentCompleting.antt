@@ -1,10 +1,9 @@
 -- A grid of Tents that meets each house with a cell is a solution exactly if its tents and trees can be paired.
-use Rattle.fields_core.proofs.Common.{AreMet, IsGrid, IsTents, List, Tents, all_below-from, and_from, and_parts, any_below-some, ap, arith, can_be_paired, cases_Bool, cases_lt, column_of_tents, column_places, column_right, count_by, eq-eqb, eqb, exactly, false_from_ne_true, houses_below, inl, inr, is_barred, leb-true, lt-ltb, map, meets_house, mod-lt, nonzeros, not, not-true, one_at_most, or_left, or_right, refl, row_of_tents, row_places, row_right, slice_index, solves_tents, square_house, sym, tent, tent_cells, tent_counts, tent_houses, touch_right, touches, tree, tree_house, tree_right, true, true≢false, ℕ, ◌%◌, ◌*◌, ◌+◌, ◌-◌, ◌/◌, ◌<◌, ◌||◌, ◌∙◌, ◌≡◌, ◌≤◌}
+use Rattle.fields_core.proofs.Common.{AreMet, IsGrid, IsTents, List, Tents, all_below-from, and_parts, any_below-some, ap, arith, can_be_paired, cases_Bool, column_of_tents, column_places, column_right, count_by, eq-eqb, eqb, exactly, false_from_ne_true, houses_below, inl, inr, is_barred, leb-true, lt-ltb, map, meets_house, nonzeros, not, one_at_most, or_left, or_right, refl, row_of_tents, row_places, row_right, slice_index, solves_tents, square_house, sym, tent, tent_cells, tent_counts, tent_houses, touch_right, touches, tree, tree_house, tree_right, true, true≢false, ℕ, ◌%◌, ◌*◌, ◌+◌, ◌/◌, ◌<◌, ◌∙◌, ◌≡◌}
 use Rattle.fields_core.proofs.HouseLemmas.{row-long, column-long}
 use Rattle.fields_core.proofs.LightHouseLaws.{small-at}
 use Rattle.fields_core.proofs.PlaceLists.{count-two, ones-bulbs}
-use Rattle.fields_core.proofs.TentSquareVisits.{square-has}
-use Rattle.fields_core.proofs.BesideLemmas.{cell-in, cell-parts, row-in}
+use Rattle.fields_core.proofs.BesideLemmas.{cell-in, cell-parts}
 use Rattle.fields_core.proofs.TentCounting.{square_places, tents-parts}
 use Rattle.fields_core.proofs.TentRuleLemmas.{tents-from}
 use Rattle.fields_core.proofs.TentTouching.{in-square}

@@ -22,22 +22,22 @@ pub use Rattle.engine_core.specs.HouseSets.{AreBelow}
 pub use Rattle.engine_core.specs.Keeping.{StillServes}
 pub use Rattle.engine_core.specs.declared.mode.Mode.TheVariants.{Sweep}
 pub use Rattle.engine_core.specs.PlaneNotes.{AreKept, HasBoard, IsSuited}
-pub use Rattle.fields_core.specs.CountHouse.{AcceptsJust, AreMet, CountHouse, CountPuzzle, IsCounted, IsHouse, count_house_of, exactly, one_at_least}
+pub use Rattle.fields_core.specs.CountHouse.{AcceptsJust, AreMet, CountHouse, CountPuzzle, IsCounted, IsFlagged, IsHouse, count_house_of, exactly, one_at_least}
 pub use Rattle.fields_core.specs.CountHouse.{one_at_most, rules_of}
 unfoldable pub use Rattle.fields_core.specs.CountHouse.{after_house, houses_below}
 pub use Rattle.fields_core.specs.CountLaws.{count-lawful}
-pub use Rattle.fields_core.specs.Houses.{AreAdded, AreNamed, ArePassing, CountsPassing, IsCountIf, IsLongestNamed, TestsBelow, house_told, places_in_segments, segment_places}
+pub use Rattle.fields_core.specs.Houses.{AddsHouses, AreNamed, ArePassing, CountsPassing, IsCountIf, IsMeasured, TestsBelow, house_told, houses_of_kinds, places_in_segments, segment_places}
 pub use Rattle.fields_core.specs.Light.{bulb, bulbs_beside, light_cells}
 unfoldable pub use Rattle.fields_core.specs.Light.{number_right, sees_bulb, white}
 pub use Rattle.fields_core.specs.LightFaults.{IsLightFault}
-pub use Rattle.fields_core.specs.LightHouses.{AddsAll, AddsHouse, AreLightNames, column_house, light_house_at, houses_in_grid, houses_in_rows, light_counts, light_house, light_rules, lit_house, number_house}
+pub use Rattle.fields_core.specs.LightHouses.{column_house, light_house_at, houses_in_grid, houses_in_rows, light_counts, light_house, light_kind, light_rules, lit_house, number_house}
 pub use Rattle.fields_core.specs.LightHouses.{row_house}
 unfoldable pub use Rattle.fields_core.specs.LightHouses.{light_houses}
 pub use Rattle.fields_core.specs.LightRuns.{asks, lonely}
 pub use Rattle.fields_core.specs.LightPlanes.{AreLightsWritten, ArePlanesOf, AreRowTables, AreTables, HasTables}
 pub use Rattle.fields_core.specs.LightRunLines.{AreAround, AreAroundAlong, AreRunsOf, AreRunsVisited, IsClash, ReachesAlong, ReachesMarked, word_along}
 pub use Rattle.fields_core.specs.LightRuns.{AreWordsFilled, AreRunsWritten, AreWordsWritten, IsFilledIn}
-pub use Rattle.fields_core.specs.LightRuns.{AddsRun, IsAround, IsLatest, IsLine, TellsRun, house_along, cells_along, whites_of}
+pub use Rattle.fields_core.specs.LightRuns.{IsAround, IsLatest, IsLine, house_along, cells_along, whites_of}
 pub use Rattle.fields_core.specs.LightRuns.{RunsOn, ShinesAlong, ShinesInLine}
 pub use Rattle.fields_core.specs.LightSolutions.{IsLightSolution}
 pub use Rattle.fields_core.specs.LightWaits.{AreAlwaysRested, AreColumnsPartedFrom, AreIdleBut, AreLightsReady, AreLightsRested, AreLightsWoken, AreLightsWokenSince, AreNumbersSettled, AreRunLines, AreSafe, AreSafeInColumns, AreThoseMet}
@@ -52,7 +52,7 @@ unfoldable pub use Rattle.fields_core.specs.Parts.{without_value}
 pub use Rattle.fields_core.specs.Sweeps.{IsSweep}
 pub use Rattle.fields_core.specs.Count.{IsTally, value_stays}
 pub use Rattle.fields_core.specs.TentSolutions.{IsTentFault}
-pub use Rattle.fields_core.specs.TentHouses.{AddsTree, AreTentNames, column_of_tents, row_of_tents, tent_counts, tent_house, tent_rules, tree_house}
+pub use Rattle.fields_core.specs.TentHouses.{column_of_tents, row_of_tents, tent_counts, tent_house, tent_kind, tent_rules, tent_span, tree_house}
 unfoldable pub use Rattle.fields_core.specs.TentHouses.{is_barred, tent_houses}
 pub use Rattle.fields_core.specs.TentWaits.{AreTentsReady, AreTentsWritten, AreTreesVisited, IsFieldOf}
 pub use Rattle.fields_core.specs.TentPairs.{AreIn, AreNumbered, HasPairingRoom, tent_places, tree_beside, tree_count}

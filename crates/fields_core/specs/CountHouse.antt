@@ -105,5 +105,10 @@ pub record AreMet (p : CountPuzzle) (g : List ℕ) : Type 0 where
   pub meets_each : (h : ℕ) → h < length p.houses → 0 < length (count_house_of p.houses h).places
       → meets_house (count_house_of p.houses h) g ≡ true
 
+-- Where a game flags, the flag says which grids that meet each house with a cell are solutions: none, or all.
+abbrev pub IsFlagged : CountPuzzle → Bool → Bool → Type 0
+IsFlagged p flags unmet = flags ≡ true → (g : List ℕ) → IsGrid p.cells 2 g → AreMet p g
+    → p.is_solution g ≡ not unmet
+
 abbrev pub IsCounted : CountPuzzle → Type 0
 IsCounted p = IsCounting p.cells p.blocked p.houses p.is_solution

@@ -1,10 +1,11 @@
 -- Count houses as they are told by few numbers.
-use Rattle.std.specs.Prelude.{◌≡◌, ℕ, ◌+◌, ◌*◌, ◌<◌, Bool, true, if◌then◌else◌, List, [], ◌∷◌, ◌++◌, filter, length, map}
-use Rattle.fields_core.specs.Below.{Extent, concat, longest, range_with_len}
-use Rattle.fields_core.specs.CountHouse.{CountHouse, count_house_of}
+use Rattle.std.specs.Prelude.{◌≡◌, ℕ, ◌+◌, ◌*◌, ◌<◌, Bool, true, if◌then◌else◌, List, [], ◌∷◌, filter, length, map, max, slice_index_or}
+use Rattle.fields_core.specs.Below.{Extent, concat, range_with_len}
+use Rattle.fields_core.specs.CountHouse.{CountHouse, count_house_of, houses_below}
 use Rattle.fields_core.specs.declared.count.house.Bounds.{Bounds}
 use Rattle.fields_core.specs.declared.count.house.House.{House}
 use Rattle.fields_core.specs.declared.count.name.HouseName.{HouseName}
+use Rattle.fields_core.specs.declared.count.name.Measured.{Measured}
 use Rattle.fields_core.specs.declared.count.house.Segment.{Segment}
 
 -- the cells of a segment, and of several
@@ -26,22 +27,36 @@ house_told house = record {
 abbrev pub bounds_of : CountHouse → Bounds
 bounds_of house = record { least = house.least; most = house.most }
 
--- the house that a name tells, by its kind and its place or line, and how many cells the name says that it has
-abbrev pub named : {K : Type 0} → (K → ℕ → List CountHouse) → HouseName K → List CountHouse × ℕ
-named told name = (told name.kind name.place, name.cells)
+-- the house that a name tells, by its kind and its place or line
+abbrev pub named : {K : Type 0} → (K → ℕ → List CountHouse) → HouseName K → List CountHouse
+named told name = told name.kind name.place
 
-abbrev pub sized : CountHouse → List CountHouse × ℕ
-sized house = (house ∷ [], length house.places)
-
--- the names are those of the houses
+-- each of the names tells the house of its number
 abbrev pub AreNamed : {K : Type 0} → (K → ℕ → List CountHouse) → List (HouseName K)
     → List CountHouse → Type 0
-AreNamed told names houses = map (named told) names ≡ map sized houses
+AreNamed {K} told names houses = (h : ℕ) (name : HouseName K) → h < length names
+    → named told (slice_index_or names h name) ≡ count_house_of houses h ∷ []
 
--- names of these houses were added at the end
-abbrev pub AreAdded : {K : Type 0} → (K → ℕ → List CountHouse) → List (HouseName K)
-    → List (HouseName K) → List CountHouse → Type 0
-AreAdded told old new houses = map (named told) new ≡ map (named told) old ++ map sized houses
+-- the houses of the first n kinds, each by place or line
+abbrev pub houses_of_kinds : {K : Type 0} → (K → ℕ → List CountHouse) → (K → ℕ) → (ℕ → K) → ℕ
+    → List CountHouse
+houses_of_kinds told places kind_of n =
+    houses_below (λ number. houses_below (told (kind_of number)) (places (kind_of number))) n
+
+-- how many cells the longest of some houses has
+abbrev pub longest_of : List CountHouse → ℕ
+longest_of [] = 0
+longest_of (house ∷ houses) = max (length house.places) (longest_of houses)
+
+-- how many houses there are, and how long the longest is
+pub record IsMeasured (houses : List CountHouse) (m : Measured) : Type 0 where
+  pub houses_are : m.houses ≡ length houses
+  pub longest_is : m.longest ≡ longest_of houses
+
+-- these houses were counted too
+pub record AddsHouses (houses : List CountHouse) (old new : Measured) : Type 0 where
+  pub houses_are : new.houses ≡ old.houses + length houses
+  pub longest_is : new.longest ≡ max old.longest (longest_of houses)
 
 -- calls at numbers below n answer as the test does
 abbrev pub TestsBelow : (ℕ → Bool → Type 0) → (ℕ → Bool) → ℕ → Type 0
@@ -61,9 +76,3 @@ abbrev pub IsCountIf : (ℕ → Bool → Type 0) → Bool → ℕ → ℕ → Ty
 IsCountIf answers there place count = (test : ℕ → Bool)
     → (there ≡ true → (answer : Bool) → answers place answer → answer ≡ test place)
     → count ≡ length (filter test (if there then place ∷ [] else []))
-
--- so many cells has the longest of the houses that have these names
-abbrev pub IsLongestNamed : {K : Type 0} → List (HouseName K) → ℕ → Type 0
-IsLongestNamed {K} names cells = (told : K → ℕ → List CountHouse) (houses : List CountHouse)
-    → AreNamed told names houses
-    → cells ≡ longest (λ h. (count_house_of houses h).places) (length houses)

@@ -1,12 +1,10 @@
 -- The count houses of Light Up.
-use Rattle.std.specs.Prelude.{ℕ, ◌+◌, ◌*◌, ◌-◌, ◌/◌, ◌%◌, Bool, not, ◌&&◌, ◌||◌, ◌==◌, if◌then◌else◌, List, [], ◌∷◌, ◌++◌, filter, slice_index_or}
-use Rattle.fields_core.specs.Below.{Black, Light, LightCell, Numbered, RuleSystem, Vec, White, beside, column_places, row_places}
+use Rattle.std.specs.Prelude.{ℕ, zero, suc, ◌+◌, ◌*◌, ◌-◌, ◌/◌, ◌%◌, Bool, not, ◌&&◌, ◌||◌, ◌==◌, if◌then◌else◌, List, [], ◌∷◌, ◌++◌, filter, slice_index_or}
+use Rattle.fields_core.specs.Below.{Black, Light, LightCell, Numbered, RuleSystem, White, beside, column_places, row_places}
 use Rattle.fields_core.specs.declared.light_up.light_house.LightHouse.{LightHouse}
 use Rattle.fields_core.specs.declared.light_up.light_house.LightHouse.TheVariants.{Number, Row, Column, Lit}
 use Rattle.fields_core.specs.CountHouse.{CountHouse, exactly, one_at_most, one_at_least, houses_below, CountPuzzle, rules_of}
 use Rattle.fields_core.specs.Light.{light_cells, white, joined_in_row, joined_in_column, solves_lights}
-use Rattle.fields_core.specs.Houses.{AreAdded, AreNamed}
-use Rattle.fields_core.specs.declared.count.name.HouseName.{HouseName}
 
 -- the run of white cells of the row that the cell is in, from the left; and of the column, from the top
 unfoldable pub row_run : Light → ℕ → List ℕ
@@ -53,6 +51,13 @@ light_house p Row c = row_house p c
 light_house p Column c = column_house p c
 light_house p Lit c = lit_house p c
 
+-- the kinds, by number
+abbrev pub light_kind : ℕ → LightHouse
+light_kind zero = Number
+light_kind (suc zero) = Row
+light_kind (suc (suc zero)) = Column
+light_kind (suc (suc (suc _))) = Lit
+
 -- the houses of one sort: that of a cell, those of a row, all by row, and all by place
 abbrev pub light_house_at : Light → (Light → ℕ → List CountHouse) → ℕ → ℕ → List CountHouse
 light_house_at p house y x = house p (y * p.size.w + x)
@@ -83,16 +88,3 @@ light_counts p = record {
 -- what the rules of Light Up mean to a search
 abbrev pub light_rules : Light → RuleSystem
 light_rules p = rules_of (light_counts p)
-
--- the names of the puzzle's houses
-abbrev pub AreLightNames : Light → List (HouseName LightHouse) → Type 0
-AreLightNames p names = AreNamed (light_house p) names (light_houses p)
-
--- the name of the house that a cell tells was added, if there is one; and those of all cells
-abbrev pub AddsHouse : Light → (Light → ℕ → List CountHouse) → ℕ → Vec (HouseName LightHouse)
-    → Vec (HouseName LightHouse) → Type 0
-AddsHouse p house c old new = AreAdded (light_house p) old.items new.items (house p c)
-
-abbrev pub AddsAll : Light → (Light → ℕ → List CountHouse) → Vec (HouseName LightHouse)
-    → Vec (HouseName LightHouse) → Type 0
-AddsAll p house old new = AreAdded (light_house p) old.items new.items (houses_in_grid p house)

@@ -1,13 +1,9 @@
 -- The runs that the cells of a line are in, and what a cell sees. No public contract uses these words.
 use Rattle.std.specs.Prelude.{Bool, List, [], false, filter, if◌then◌else◌, length, map, nat_lt, not, slice_index, slice_index_or, suc, true, ℕ, ◌&&◌, ◌*◌, ◌+◌, ◌-◌, ◌<◌, ◌==◌, ◌||◌, ◌∷◌, ◌≡◌, ◌≢◌, ◌≤◌}
-use Rattle.fields_core.specs.Below.{Black, Light, LightCell, Numbered, Vec, White, beside, range_with_len}
+use Rattle.fields_core.specs.Below.{Black, Light, LightCell, Numbered, White, beside, range_with_len}
 use Rattle.fields_core.specs.CountHouse.{CountHouse, one_at_most}
 use Rattle.fields_core.specs.Light.{bulb, clear, white}
 use Rattle.fields_core.specs.declared.light_up.line.WhiteLine.{WhiteLine}
-use Rattle.fields_core.specs.Houses.{AreAdded}
-use Rattle.fields_core.specs.LightHouses.{light_house}
-use Rattle.fields_core.specs.declared.count.name.HouseName.{HouseName}
-use Rattle.fields_core.specs.declared.light_up.light_house.LightHouse.{LightHouse}
 use Rattle.grid_core.specs.Words.{has_bit}
 
 -- The runs that the cells of a line are in.
@@ -62,17 +58,6 @@ run_house p first stride len at =
 
 abbrev pub house_along : WhiteLine → ℕ → List CountHouse
 house_along line at = run_house line.puzzle.now line.first line.stride line.len at
-
--- the name of that house was added, if there is one
-abbrev pub AddsRun : WhiteLine → ℕ → Vec (HouseName LightHouse) → Vec (HouseName LightHouse)
-    → Type 0
-AddsRun line at old new =
-    AreAdded (light_house line.puzzle.now) old.items new.items (house_along line at)
-
--- the house of that kind which the cell tells is that run's
-abbrev pub TellsRun : LightHouse → WhiteLine → ℕ → Type 0
-TellsRun kind line at =
-    light_house line.puzzle.now kind (line.first + at * line.stride) ≡ house_along line at
 
 -- Words of runs along a line, as they are written one after another.
 

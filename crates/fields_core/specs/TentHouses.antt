@@ -1,12 +1,10 @@
 -- The count houses of Tents.
-use Rattle.std.specs.Prelude.{◌*◌, ℕ, ◌+◌, ◌/◌, ◌%◌, Bool, not, ◌&&◌, ◌||◌, nat_lt, if◌then◌else◌, List, [], ◌∷◌, ◌++◌, filter, slice_index}
-use Rattle.fields_core.specs.Below.{RuleSystem, Tents, Vec, beside, column_places, list_any, row_places}
+use Rattle.std.specs.Prelude.{ℕ, zero, suc, ◌+◌, ◌/◌, ◌%◌, Bool, not, ◌&&◌, ◌||◌, nat_lt, if◌then◌else◌, List, [], ◌∷◌, ◌++◌, filter, slice_index}
+use Rattle.fields_core.specs.Below.{RuleSystem, Tents, beside, column_places, list_any, row_places}
 use Rattle.fields_core.specs.declared.tents.tent_house.TentHouse.{TentHouse}
 use Rattle.fields_core.specs.declared.tents.tent_house.TentHouse.TheVariants.{Column, Row, Tree, Square}
 use Rattle.fields_core.specs.CountHouse.{CountHouse, exactly, one_at_most, one_at_least, houses_below, CountPuzzle, rules_of}
 use Rattle.fields_core.specs.Tents.{tent_cells, tree, solves_tents}
-use Rattle.fields_core.specs.Houses.{AreAdded, AreNamed}
-use Rattle.fields_core.specs.declared.count.name.HouseName.{HouseName}
 
 -- a column, and a row, has its number of tents
 abbrev pub column_of_tents : Tents → ℕ → List CountHouse
@@ -37,6 +35,19 @@ tent_house p Row y = if nat_lt y p.size.h then row_of_tents p y else []
 tent_house p Tree c = tree_house p c
 tent_house p Square c = square_house p c
 
+-- the kinds by number, and how many places or lines may tell houses of one
+abbrev pub tent_kind : ℕ → TentHouse
+tent_kind zero = Column
+tent_kind (suc zero) = Row
+tent_kind (suc (suc zero)) = Tree
+tent_kind (suc (suc (suc _))) = Square
+
+abbrev pub tent_span : Tents → TentHouse → ℕ
+tent_span p Column = p.size.w
+tent_span p Row = p.size.h
+tent_span p Tree = tent_cells p
+tent_span p Square = tent_cells p
+
 -- the houses of the columns, of the rows, of the trees by place, and of the squares by place
 unfoldable pub tent_houses : Tents → List CountHouse
 tent_houses p =
@@ -61,12 +72,3 @@ tent_counts p = record {
 -- what the rules of Tents mean to a search
 abbrev pub tent_rules : Tents → RuleSystem
 tent_rules p = rules_of (tent_counts p)
-
--- the names of the puzzle's houses
-abbrev pub AreTentNames : Tents → List (HouseName TentHouse) → Type 0
-AreTentNames p names = AreNamed (tent_house p) names (tent_houses p)
-
--- the name of the house of a cell's tree was added, if one stands there
-abbrev pub AddsTree : Tents → ℕ → ℕ → Vec (HouseName TentHouse) → Vec (HouseName TentHouse) → Type 0
-AddsTree p x y old new =
-    AreAdded (tent_house p) old.items new.items (tree_house p (y * p.size.w + x))

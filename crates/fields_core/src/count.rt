@@ -3,5 +3,6 @@
 pub(crate) mod game;
 pub(crate) mod house;
 pub(crate) mod name;
+pub(crate) mod names;
 pub(crate) mod rules;
 pub(crate) mod tally;

@@ -6,6 +6,5 @@ pub(crate) mod fault;
 pub(crate) mod houses;
 pub(crate) mod light_house;
 pub(crate) mod line;
-pub(crate) mod lonely;
 pub(crate) mod rules;
 pub(crate) mod sight;

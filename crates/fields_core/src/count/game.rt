@@ -1,10 +1,10 @@
 //! What only a game knows of rules whose houses count the ones of their cells.
 
-ghost use Rattle.std.specs.Prelude.{◌<◌, ◌∷◌, ◌≡◌, IfOk, List, ℕ, [], length};
-ghost use Rattle.fields_core.specs.Common.{AreNamed, CountHouse, CountPuzzle, IsCounted, IsGrid, house_told};
+ghost use Rattle.std.specs.Prelude.{◌<◌, ◌∷◌, ◌^◌, ◌≡◌, Bool, IfOk, List, ℕ, [], if◌then◌else◌, length};
+ghost use Rattle.fields_core.specs.Common.{CountHouse, CountPuzzle, IsCounted, IsFlagged, IsGrid, IsMeasured, house_told, houses_of_kinds};
 
 use crate::count::house::House;
-use crate::count::name::HouseName;
+use crate::count::name::Measured;
 use grid_core::Grid;
 use std::alloc::{AllocError, Global};
 
@@ -22,19 +22,46 @@ pub trait CountGame: Drop + Sized {
     /// The house of that kind which a place or a line tells, if there is one.
     ghost told: { Self → Self.Kind → ℕ → List CountHouse };
 
+    /// The kinds, by number.
+    ghost kind_of: { ℕ → Self.Kind };
+
+    /// How many places or lines may tell houses of a kind.
+    ghost span_of: { Self → Self.Kind → ℕ };
+
+    /// Whether its flag tells which grids are solutions, of those that meet each house with a cell.
+    ghost flags: { Bool };
+
     /// The scratch serves so many cells.
     ghost serves: { Self.Scratch → ℕ → Type 0 };
 
-    /// The same puzzle once more, and the names of its houses.
+    /// The same puzzle once more.
     ///
     /// # Errors
     ///
     /// When memory was refused.
-    fn parts(&self, alloc: Global) -> Result<(Self, Vec<HouseName<Self::Kind>>), AllocError>
+    fn again(&self, alloc: Global) -> Result<Self, AllocError>
+        ensures { IfOk result (λ puzzle. puzzle ≡ self.now) };
+
+    /// How many houses it has, how long the longest is, and its flag.
+    fn measured(&self) -> Measured
         ensures counting { IsCounted (counts self.now) }
-        ensures copied { IfOk result (λ parts. parts.0 ≡ self.now) }
-        ensures named { IfOk result
-            (λ parts. AreNamed (told self.now) parts.1.items (counts self.now).houses) };
+        ensures measured { IsMeasured (counts self.now).houses result }
+        ensures flagged { IsFlagged (counts self.now) flags result.unmet };
+
+    /// The kinds, by number.
+    fn kind(number: usize) -> Self::Kind
+        requires { number < 4 }
+        ensures { result ≡ kind_of number };
+
+    /// How many places or lines may tell houses of the kind.
+    fn span(&self, kind: Self::Kind) -> usize
+        ensures span { result ≡ span_of self.now kind }
+        ensures few { result < 2 ^ 16 };
+
+    /// Whether the place or the line tells a house of the kind.
+    fn tells(&self, kind: Self::Kind, place: usize) -> bool
+        requires { place < span_of self.now kind }
+        ensures { length (told self.now kind place) ≡ (if result then 1 else 0) };
 
     /// The house of that kind which the place or the line tells.
     fn house(&self, kind: Self::Kind, place: usize) -> House
@@ -60,4 +87,8 @@ pub trait CountGame: Drop + Sized {
         requires served { serves scratch.old ((counts self.now).cells) }
         ensures solution { result ≡ (counts self.now).is_solution grid.now }
         ensures keeps { (n : ℕ) → serves scratch.old n → serves scratch.new n };
+
+    /// The houses are those of each kind, each by place or line.
+    ghost houses_are: { (p : Self) → (counts p).houses
+        ≡ houses_of_kinds (told p) (span_of p) kind_of 4 };
 }

@@ -1,38 +1,57 @@
-//! Names of count houses.
-#![tactic(auto, using(crate::proofs::LawSets::house_name_laws))]
+//! Names of count houses, and what is counted of all of them.
 
-ghost use Rattle.std.specs.Prelude.{◌<◌, ◌^◌, ◌≡◌};
-ghost use Rattle.fields_core.specs.Common.{IsLongestNamed, longest};
+ghost use Rattle.std.specs.Prelude.{◌+◌, ◌<◌, ◌^◌, ◌≡◌, ◌∷◌, [], false, length};
+ghost use Rattle.fields_core.specs.Common.{AddsHouses, CountHouse, IsMeasured};
 
-/// A house: the place or the line that tells it, of which kind it is, and how many cells it has.
+/// A house: of which kind it is, and the place or the line that tells it.
 #[derive(Clone, Copy)]
 pub struct HouseName<K> {
-    pub(crate) place: u16,
     pub(crate) kind: K,
-    pub(crate) cells: u8,
+    pub(crate) place: u16,
 }
 
 impl<K: Copy> HouseName<K> {
-    /// The house of that kind that the place or the line tells, which has so many cells.
-    pub(crate) fn of(kind: K, place: usize, cells: usize) -> HouseName<K>
-        requires place { place < 2 ^ 16 }
-        requires cells { cells < 2 ^ 8 }
+    /// The house of that kind that the place or the line tells.
+    pub(crate) fn of(kind: K, place: usize) -> HouseName<K>
+        requires { place < 2 ^ 16 }
         ensures kind { result.kind ≡ kind }
         ensures place { result.place ≡ place }
-        ensures cells { result.cells ≡ cells }
     {
-        let (place, cells) = (place as u16, cells as u8);
-        HouseName { place, kind, cells }
+        let place = place as u16;
+        HouseName { kind, place }
     }
 }
 
-/// How many cells the longest house has.
-pub(crate) fn longest_of<K: Copy>(names: &[HouseName<K>]) -> usize
-    ensures { IsLongestNamed names.now result }
-{
-    let mut cells = 0;
-    for k in 0..names.len() {
-        cells = cells.max(names[k].cells);
+/// How many houses there are and how many cells the longest has. The flag: whether no grid meets one that has no cell.
+#[derive(Clone, Copy)]
+pub struct Measured {
+    pub(crate) houses: usize,
+    pub(crate) longest: usize,
+    pub(crate) unmet: bool,
+}
+
+impl Measured {
+    /// What is counted of no houses.
+    pub(crate) fn none() -> Measured
+        ensures counted { IsMeasured [] result }
+        ensures unmet { result.unmet ≡ false }
+    {
+        Measured {
+            houses: 0,
+            longest: 0,
+            unmet: false,
+        }
     }
-    usize::from(cells)
+
+    /// Counts a house of so many cells.
+    pub(crate) fn add(&mut self, cells: usize)
+        requires { self.old.houses < 2 ^ 32 }
+        ensures added { (house : CountHouse) → cells ≡ length house.places
+            → AddsHouses (house ∷ []) self.old self.new }
+        ensures one { self.new.houses ≡ self.old.houses + 1 }
+        ensures unmet { self.new.unmet ≡ self.old.unmet }
+    {
+        self.houses += 1;
+        self.longest = self.longest.max(cells);
+    }
 }

@@ -1,31 +1,33 @@
 //! The rules of a puzzle of count houses.
 #![tactic(auto, using(crate::proofs::LawSets::count_rules_laws))]
 
-ghost use Rattle.std.specs.Prelude.{◌<◌, ◌≡◌, IfOk, false, length, refl, true};
+ghost use Rattle.std.specs.Prelude.{◌<◌, ◌∷◌, ◌≡◌, IfOk, [], false, length, refl, true};
 ghost use Rattle.grid_core.specs.Board.{cells_of, has};
-ghost use Rattle.fields_core.specs.Common.{AreNamed, HasStruck, IsCounted, IsHouse, SameShape, Sweep, after_house, count_house_of, house_told, needs_of, rules_of};
+ghost use Rattle.fields_core.specs.Common.{AreNamed, HasStruck, IsCounted, IsFlagged, IsHouse, IsMeasured, SameShape, Sweep, after_house, count_house_of, house_told, rules_of};
 
 use crate::count::game::CountGame;
 use crate::count::house::{House, next_passing};
-use crate::count::name::{HouseName, longest_of};
+use crate::count::name::{HouseName, Measured};
+use crate::count::names::{name_of, names_of};
 use crate::count::tally::Tally;
 use engine_core::{Mode, Rules};
 use grid_core::{Board, Fixed, Grid};
 use std::alloc::{AllocError, Global};
 
-/// A copy of the puzzle, the names of its houses, and how many cells the longest has.
+/// A copy of the puzzle, what was counted of its houses, and the names of all of them or of none.
 #[derive(Drop)]
 pub struct CountRules<P: CountGame> {
     pub(crate) puzzle: P,
-    pub(crate) names: Fixed<HouseName<P::Kind>>,
-    longest: usize,
+    pub(crate) measured: Measured,
+    names: Fixed<HouseName<P::Kind>>,
     ghost counting: { IsCounted (P.counts puzzle) },
+    ghost counted: { IsMeasured (P.counts puzzle).houses measured },
+    ghost flagged: { IsFlagged (P.counts puzzle) P.flags measured.unmet },
     ghost named: { AreNamed (P.told puzzle) names.items (P.counts puzzle).houses },
-    ghost long: { longest ≡ (needs_of (rules_of (P.counts puzzle))).scope },
 }
 
 impl<P: CountGame> CountRules<P> {
-    /// The rules of the puzzle. They keep a copy of it.
+    /// The rules of the puzzle. They keep a copy of it, and the names of its houses.
     ///
     /// # Errors
     ///
@@ -36,14 +38,44 @@ impl<P: CountGame> CountRules<P> {
         ensures rules { IfOk result (λ v. ⟦<Self as Rules>⟧.system v
             ≡ rules_of (P.counts puzzle.now)) }
     {
-        let (puzzle, names) = puzzle.parts(alloc)?;
-        let names = Fixed::of(names);
-        let longest = longest_of(&names);
+        let measured = puzzle.measured();
+        let names = Fixed::of(names_of(alloc, puzzle, measured.houses)?);
         Ok(CountRules {
-            puzzle,
+            puzzle: puzzle.again(alloc)?,
+            measured,
             names,
-            longest,
         })
+    }
+
+    /// The same rules, for searches: a house that is asked for is looked for among all.
+    ///
+    /// # Errors
+    ///
+    /// When memory was refused.
+    pub fn for_search(alloc: Global, puzzle: &P) -> Result<CountRules<P>, AllocError>
+        ensures known { IsCounted (P.counts puzzle.now) }
+        ensures copied { IfOk result (λ rules. rules.puzzle ≡ puzzle.now) }
+        ensures rules { IfOk result (λ v. ⟦<Self as Rules>⟧.system v
+            ≡ rules_of (P.counts puzzle.now)) }
+    {
+        let measured = puzzle.measured();
+        Ok(CountRules {
+            puzzle: puzzle.again(alloc)?,
+            measured,
+            names: Fixed::of(Vec::new(alloc)),
+        })
+    }
+
+    /// The name of the house of that number.
+    fn name(&self, house: usize) -> HouseName<P::Kind>
+        requires { house < length (P.counts self.now.puzzle).houses }
+        ensures { P.told self.now.puzzle result.kind result.place
+            ≡ count_house_of (P.counts self.now.puzzle).houses house ∷ [] }
+    {
+        if house < self.names.len() {
+            return self.names[house];
+        }
+        name_of(&self.puzzle, house)
     }
 
     /// The house of that number.
@@ -52,7 +84,7 @@ impl<P: CountGame> CountRules<P> {
         ensures { house_told result
             ≡ count_house_of (P.counts self.now.puzzle).houses house }
     {
-        let name = self.names[house];
+        let name = self.name(house);
         self.puzzle.house(name.kind, usize::from(name.place))
     }
 }
@@ -113,7 +145,7 @@ impl<P: CountGame> Rules for CountRules<P> {
     }
 
     fn houses(&self) -> usize {
-        self.names.len()
+        self.measured.houses
     }
 
     fn bound(&self) -> usize {
@@ -121,11 +153,11 @@ impl<P: CountGame> Rules for CountRules<P> {
     }
 
     fn scope_len(&self, house: usize) -> usize {
-        usize::from(self.names[house].cells)
+        self.house(house).len()
     }
 
     fn longest(&self) -> usize {
-        self.longest
+        self.measured.longest
     }
 
     fn scope(&self, house: usize, k: usize) -> usize {
@@ -134,7 +166,11 @@ impl<P: CountGame> Rules for CountRules<P> {
 
     /// A sweep visits all houses: no closing asks for it.
     fn house_at(&self, place: usize, from: usize) -> Option<usize> {
-        next_passing(from, self.names.len(), |house| self.house(house).has(place))
+        next_passing(
+            from,
+            self.measured.houses,
+            |house| self.house(house).has(place),
+        )
     }
 
     /// A blocked cell has only 0, and all other sets are full.

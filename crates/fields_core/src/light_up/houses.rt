@@ -1,104 +1,81 @@
-//! The names of the houses of Light Up.
+//! What is counted of the houses of Light Up.
 
-ghost use Rattle.std.specs.Prelude.{◌<◌, ◌≡◌, IfOk, OnOk, true};
-ghost use Rattle.fields_core.specs.Common.{AddsAll, AddsHouse, AddsRun, AreLightNames, IsAround, IsLatest, IsLight, TellsRun, column_house, light_cells, light_house, lit_house, number_house, row_house, whites_of};
+ghost use Rattle.std.specs.Prelude.{◌&&◌, ◌*◌, ◌+◌, ◌<◌, ◌^◌, ◌||◌, ◌≡◌, ◌≤◌, true};
+ghost use Rattle.fields_core.specs.Common.{AddsHouses, IsAround, IsLatest, IsLight, IsMeasured, any_below, house_along, light_cells, light_houses, lonely, number_house, whites_of};
 
 use crate::count::house::count_passing;
-use crate::count::name::HouseName;
+use crate::count::name::Measured;
 use crate::light_up::cells::{LONGEST, columns, is_white, rows};
-use crate::light_up::light_house::LightHouse;
 use crate::light_up::line::WhiteLine;
 use gameid_core::{LightCell, LightPuzzle};
-use std::alloc::{AllocError, Global};
 
-/// Names of houses, one after another.
-type LightNames = Vec<HouseName<LightHouse>>;
-
-/// Adds the house of a cell with a number.
-fn push_number(names: &mut LightNames, puzzle: &LightPuzzle, place: usize) -> Result<(), AllocError>
-    requires { place < light_cells puzzle.now }
-    ensures { OnOk result (AddsHouse puzzle.now number_house place names.old names.new) }
+/// Counts the house of the number of the cell in that column and row, if it has one.
+fn add_number(measured: &mut Measured, puzzle: &LightPuzzle, x: usize, y: usize)
+    requires room { measured.old.houses < 2 ^ 32 }
+    requires x_in { x < puzzle.now.size.w }
+    requires y_in { y < puzzle.now.size.h }
+    ensures added { AddsHouses (number_house puzzle.now (y * puzzle.now.size.w + x))
+        measured.old measured.new }
+    ensures few { measured.new.houses ≤ measured.old.houses + 1 }
+    ensures unmet { measured.new.unmet
+        ≡ (measured.old.unmet || lonely puzzle.now (y * puzzle.now.size.w + x)) }
 {
-    if let LightCell::Numbered(_) = puzzle.cell(place) {
-        let w = columns(puzzle);
-        let passes = |other| is_white(puzzle, other);
-        let cells = count_passing(puzzle.size(), place % w, place / w, passes);
-        names.push(HouseName::of(LightHouse::Number, place, cells))?;
+    let place = y * columns(puzzle) + x;
+    if let LightCell::Numbered(number) = puzzle.cell(place) {
+        let cells = count_passing(puzzle.size(), x, y, |other| is_white(puzzle, other));
+        measured.add(cells);
+        measured.unmet |= (number > 0) & (cells == 0);
     }
-    Ok(())
 }
 
-/// The run of the white cell of number `at` along a line. Its house is added, unless the latest run reaches the cell.
-fn push_run(
-    names: &mut LightNames,
+/// The run of the white cell of number `at` along a line. Its house is counted, unless the latest run reaches the cell.
+fn add_run(
+    measured: &mut Measured,
     line: &WhiteLine<'_>,
-    kind: LightHouse,
     latest: (usize, usize),
     at: usize,
-) -> Result<(usize, usize), AllocError>
+) -> (usize, usize)
+    requires room { measured.old.houses < 2 ^ 32 }
     requires at_in { at < line.now.len }
     requires white { whites_of line.now at ≡ true }
     requires latest { IsLatest (whites_of line.now) line.now.len at latest }
-    requires told { TellsRun kind line.now at }
-    ensures run { IfOk result (λ run. IsAround (whites_of line.now) line.now.len at run.0 run.1) }
-    ensures added { OnOk result (AddsRun line.now at names.old names.new) }
+    ensures run { IsAround (whites_of line.now) line.now.len at result.0 result.1 }
+    ensures added { AddsHouses (house_along line.now at) measured.old measured.new }
+    ensures few { measured.new.houses ≤ measured.old.houses + 1 }
+    ensures unmet { measured.new.unmet ≡ measured.old.unmet }
 {
     if at < latest.1 {
-        return Ok(latest);
+        return latest;
     }
     let end = line.run_end(at);
-    names.push(HouseName::of(kind, line.place(at), end - at))?;
-    Ok((at, end))
+    measured.add(end - at);
+    (at, end)
 }
 
-/// Adds by place the houses of runs along rows and along columns, and of each white cell with the cells that it sees.
-fn push_whites(
-    in_rows: &mut LightNames,
-    in_columns: &mut LightNames,
-    lits: &mut LightNames,
-    puzzle: &LightPuzzle,
-) -> Result<(), AllocError>
-    ensures rows { OnOk result (AddsAll puzzle.now row_house in_rows.old in_rows.new) }
-    ensures columns { OnOk result (AddsAll puzzle.now column_house in_columns.old in_columns.new) }
-    ensures lits { OnOk result (AddsAll puzzle.now lit_house lits.old lits.new) }
+/// What is counted of all houses: one at a time, as the walk by place meets the place that tells it.
+pub(crate) fn measure_lights(puzzle: &LightPuzzle) -> Measured
+    ensures measured { IsMeasured (light_houses puzzle.now) result }
+    ensures lonely { result.unmet ≡ any_below (lonely puzzle.now) (light_cells puzzle.now) }
+    ensures lawful { IsLight puzzle.now }
 {
     let (w, h) = (columns(puzzle), rows(puzzle));
+    let mut measured = Measured::none();
     let mut columns = [(0, 0); LONGEST];
     for y in 0..h {
         let line = WhiteLine::row(puzzle, y);
         let mut row = (0, 0);
         for x in 0..w {
-            let place = y * w + x;
-            if !is_white(puzzle, place) {
+            if !is_white(puzzle, y * w + x) {
+                add_number(&mut measured, puzzle, x, y);
                 continue;
             }
-            row = push_run(in_rows, &line, LightHouse::Row, row, x)?;
+            row = add_run(&mut measured, &line, row, x);
             let column = WhiteLine::column(puzzle, x);
-            let kind = LightHouse::Column;
-            let (top, end) = push_run(in_columns, &column, kind, columns[x], y)?;
+            let (top, end) = add_run(&mut measured, &column, columns[x], y);
             columns[x] = (top, end);
             let cells = row.1 - row.0 + (end - top - 1);
-            lits.push(HouseName::of(LightHouse::Lit, place, cells))?;
+            measured.add(cells);
         }
     }
-    Ok(())
-}
-
-/// The names of the houses of numbers, of runs in rows, of runs in columns and of white cells, each by place.
-#[tactic(auto, using(crate::proofs::LawSets::house_list_laws))]
-pub(crate) fn names_of_lights(alloc: Global, puzzle: &LightPuzzle) -> Result<LightNames, AllocError>
-    ensures lawful { IsLight puzzle.now }
-    ensures named { IfOk result (λ names. AreLightNames puzzle.now names.items) }
-{
-    let cells = puzzle.size().cells();
-    let mut names = Vec::with_capacity(alloc, 2 * cells)?;
-    let mut columns = Vec::with_capacity(alloc, cells)?;
-    let mut lits = Vec::with_capacity(alloc, cells)?;
-    for place in 0..cells {
-        push_number(&mut names, puzzle, place)?;
-    }
-    push_whites(&mut names, &mut columns, &mut lits, puzzle)?;
-    names.extend_from_slice(&columns)?;
-    names.extend_from_slice(&lits)?;
-    Ok(names)
+    measured
 }

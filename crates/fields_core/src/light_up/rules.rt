@@ -5,18 +5,17 @@ ghost use Rattle.std.specs.Prelude.{◌≤◌, refl};
 
 use crate::count::game::CountGame;
 use crate::count::house::House;
-use crate::count::name::HouseName;
+use crate::count::name::Measured;
 use crate::count::rules::CountRules;
 use crate::light_up::cells::{columns, is_white};
 use crate::light_up::check::check_lights;
-use crate::light_up::houses::names_of_lights;
+use crate::light_up::houses::measure_lights;
 use crate::light_up::light_house::{LightHouse, lit_told, number_told, run_told};
 use crate::light_up::line::WhiteLine;
-use crate::light_up::lonely::has_lonely_number;
 use crate::planes::light_up::light_notes::LightNotes;
 use crate::planes::rules::{GridGame, PlaneGame};
 use engine_core::Needs;
-use gameid_core::LightPuzzle;
+use gameid_core::{LightCell, LightPuzzle};
 use grid_core::{Grid, Size};
 use std::alloc::{AllocError, Global};
 
@@ -24,7 +23,9 @@ use std::alloc::{AllocError, Global};
 pub type LightRules = CountRules<LightPuzzle>;
 
 impl CountGame for LightPuzzle {
-    ghost use Rattle.fields_core.specs.Common.{light_counts, light_house};
+    ghost use Rattle.fields_core.specs.Common.{light_cells, light_counts, light_house, light_kind};
+    ghost use Rattle.std.specs.Prelude.{true};
+    ghost use Rattle.fields_core.specs.KindLaws.{light-kinds};
 
     type Scratch = ();
 
@@ -34,14 +35,47 @@ impl CountGame for LightPuzzle {
 
     ghost told = { light_house };
 
+    ghost kind_of = { light_kind };
+
+    ghost span_of = { λ p _. light_cells p };
+
+    ghost flags = { true };
+
     ghost serves = { λ _ _. Unit {0} };
 
-    fn parts(
-        &self,
-        alloc: Global,
-    ) -> Result<(LightPuzzle, Vec<HouseName<LightHouse>>), AllocError> {
-        let names = names_of_lights(alloc, self)?;
-        Ok((self.copy(alloc)?, names))
+    fn again(&self, alloc: Global) -> Result<LightPuzzle, AllocError> {
+        self.copy(alloc)
+    }
+
+    fn measured(&self) -> Measured {
+        measure_lights(self)
+    }
+
+    fn kind(number: usize) -> LightHouse {
+        match number {
+            0 => LightHouse::Number,
+            1 => LightHouse::Row,
+            2 => LightHouse::Column,
+            _ => LightHouse::Lit,
+        }
+    }
+
+    fn span(&self, _kind: LightHouse) -> usize {
+        LightPuzzle::size(self).cells()
+    }
+
+    fn tells(&self, kind: LightHouse, place: usize) -> bool {
+        let w = columns(self);
+        match kind {
+            LightHouse::Number => matches!(self.cell(place), LightCell::Numbered(_)),
+            LightHouse::Row => {
+                is_white(self, place) && (place % w == 0 || !is_white(self, place - 1))
+            }
+            LightHouse::Column => {
+                is_white(self, place) && (place / w == 0 || !is_white(self, place - w))
+            }
+            LightHouse::Lit => is_white(self, place),
+        }
     }
 
     fn house(&self, kind: LightHouse, place: usize) -> House {
@@ -70,6 +104,8 @@ impl CountGame for LightPuzzle {
     fn accept(&self, _scratch: &mut (), grid: &Grid) -> bool {
         check_lights(self, grid).is_none()
     }
+
+    ghost houses_are = { light-kinds };
 }
 
 impl GridGame for LightPuzzle {
@@ -93,7 +129,7 @@ impl PlaneGame for LightPuzzle {
 
     type Long = LightNotes<u128>;
 
-    fn completes(&self, names: &[HouseName<LightHouse>], _scratch: &mut (), _grid: &Grid) -> bool {
-        !has_lonely_number(self, names)
+    fn completes(&self, unmet: bool, _scratch: &mut (), _grid: &Grid) -> bool {
+        !unmet
     }
 }

@@ -1,10 +1,9 @@
 //! Count rules, as rules that are searched on planes: by sweeps.
 
 ghost use Rattle.std.specs.Prelude.{◌*◌, ◌≡◌, ℕ, refl, true};
-ghost use Rattle.fields_core.specs.Common.{AreMet, AreNamed, AreShortEnough, Extent, IsExtent, IsGrid, Needs, needs_in, rules_of};
+ghost use Rattle.fields_core.specs.Common.{AreMet, AreShortEnough, Extent, IsExtent, IsFlagged, IsGrid, Needs, needs_in, rules_of};
 
 use crate::count::game::CountGame;
-use crate::count::name::HouseName;
 use crate::count::rules::CountRules;
 use engine_core::{BinaryRules, Needs, PlaneNotes, PlanePosition, PlaneRules, Searchable};
 use grid_core::{Grid, Size};
@@ -39,14 +38,9 @@ pub trait PlaneGame: GridGame {
     /// What its rules keep beside planes of words of 128 places.
     type Long: PlaneNotes<u128, CountRules<Self>>;
 
-    /// Whether the grid is a solution, where blocked cells hold 0 and each house with a cell is met, by these names.
-    fn completes(
-        &self,
-        names: &[HouseName<Self::Kind>],
-        scratch: &mut Self::Scratch,
-        grid: &Grid,
-    ) -> bool
-        requires named { AreNamed (Self.told self.now) names.now ((Self.counts self.now).houses) }
+    /// Whether the grid is a solution, where blocked cells hold 0 and each house with a cell is met.
+    fn completes(&self, unmet: bool, scratch: &mut Self::Scratch, grid: &Grid) -> bool
+        requires flagged { IsFlagged (Self.counts self.now) Self.flags unmet }
         requires fits { IsGrid ((Self.counts self.now).cells) 2 grid.now }
         requires served { Self.serves scratch.old ((Self.counts self.now).cells) }
         requires met { AreMet (Self.counts self.now) grid.now }
@@ -82,7 +76,7 @@ impl<P: PlaneGame> PlaneRules for CountRules<P> {
     type Long = P::Long;
 
     fn completes(&self, scratch: &mut P::Scratch, grid: &Grid) -> bool {
-        self.puzzle.completes(&self.names, scratch, grid)
+        self.puzzle.completes(self.measured.unmet, scratch, grid)
     }
 }
 

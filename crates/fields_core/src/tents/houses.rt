@@ -1,64 +1,25 @@
-//! The names of the houses of Tents.
-#![tactic(auto, using(crate::proofs::LawSets::tent_houses_laws))]
+//! What is counted of the houses of Tents.
 
-ghost use Rattle.std.specs.Prelude.{◌<◌, IfOk, OnOk};
-ghost use Rattle.fields_core.specs.Common.{AddsTree, AreTentNames, IsTents, tent_house};
+ghost use Rattle.fields_core.specs.Common.{IsMeasured, IsTents, tent_houses};
 
-use crate::count::house::count_passing;
-use crate::count::name::HouseName;
-use crate::tents::cells::{is_tree, place_of};
-use crate::tents::tent_house::TentHouse;
+use crate::count::name::Measured;
+use crate::tents::cells::is_tree;
 use gameid_core::TentsPuzzle;
-use std::alloc::{AllocError, Global};
 
-/// Adds the house of a tree, if one stands on the cell of that column and row.
-fn push_tree(
-    names: &mut Vec<HouseName<TentHouse>>,
-    puzzle: &TentsPuzzle,
-    x: usize,
-    y: usize,
-) -> Result<(), AllocError>
-    requires x_in { x < puzzle.now.size.w }
-    requires y_in { y < puzzle.now.size.h }
-    ensures { OnOk result (AddsTree puzzle.now x y names.old names.new) }
-{
-    let place = place_of(puzzle, x, y);
-    if is_tree(puzzle, place) {
-        let free = count_passing(puzzle.size(), x, y, |other| !is_tree(puzzle, other));
-        names.push(HouseName::of(TentHouse::Tree, place, free))?;
-    }
-    Ok(())
-}
-
-/// The names of the houses of the columns, of the rows, of the trees and of the squares.
-#[tactic(auto, using(crate::proofs::LawSets::house_list_laws))]
-pub(crate) fn names_of_tents(
-    alloc: Global,
-    puzzle: &TentsPuzzle,
-) -> Result<Vec<HouseName<TentHouse>>, AllocError>
+/// What is counted of all houses: a grid has a square, and no tree has more cells than that.
+pub(crate) fn measure_tents(puzzle: &TentsPuzzle) -> Measured
     ensures lawful { IsTents puzzle.now }
-    ensures named { IfOk result (λ names. AreTentNames puzzle.now names.items) }
+    ensures measured { IsMeasured (tent_houses puzzle.now) result }
 {
     let size = puzzle.size();
     let (w, h) = (usize::from(size.w()), usize::from(size.h()));
-    let mut names = Vec::with_capacity(alloc, 2 * size.cells())?;
-    for x in 0..w {
-        names.push(HouseName::of(TentHouse::Column, x, h))?;
+    let mut houses = w + h + (w - 1) * (h - 1);
+    for place in 0..size.cells() {
+        houses += usize::from(is_tree(puzzle, place));
     }
-    for y in 0..h {
-        names.push(HouseName::of(TentHouse::Row, y, w))?;
+    Measured {
+        houses,
+        longest: w.max(h).max(4),
+        unmet: false,
     }
-    for y in 0..h {
-        for x in 0..w {
-            push_tree(&mut names, puzzle, x, y)?;
-        }
-    }
-    for y in 0..h {
-        for x in 0..w {
-            if x + 1 < w && y + 1 < h {
-                names.push(HouseName::of(TentHouse::Square, place_of(puzzle, x, y), 4))?;
-            }
-        }
-    }
-    Ok(names)
 }

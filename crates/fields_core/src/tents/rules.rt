@@ -5,13 +5,13 @@ ghost use Rattle.std.specs.Prelude.{◌≤◌, refl};
 
 use crate::count::game::CountGame;
 use crate::count::house::{House, Segment, count_passing, segments_beside};
-use crate::count::name::HouseName;
+use crate::count::name::Measured;
 use crate::count::rules::CountRules;
 use crate::planes::rules::{GridGame, PlaneGame};
 use crate::planes::tents::tent_notes::TentNotes;
 use crate::tents::cells::{column_number, is_tree, row_number};
 use crate::tents::check::find_fault;
-use crate::tents::houses::names_of_tents;
+use crate::tents::houses::measure_tents;
 use crate::tents::pairs::{PairingScratch, are_paired};
 use crate::tents::tent_house::TentHouse;
 use engine_core::Needs;
@@ -23,7 +23,9 @@ use std::alloc::{AllocError, Global};
 pub type TentRules = CountRules<TentsPuzzle>;
 
 impl CountGame for TentsPuzzle {
-    ghost use Rattle.fields_core.specs.Common.{HasPairingRoom, tent_counts, tent_house};
+    ghost use Rattle.fields_core.specs.Common.{HasPairingRoom, tent_counts, tent_house, tent_kind, tent_span};
+    ghost use Rattle.std.specs.Prelude.{false};
+    ghost use Rattle.fields_core.specs.KindLaws.{tent-kinds};
 
     type Scratch = PairingScratch;
 
@@ -33,11 +35,49 @@ impl CountGame for TentsPuzzle {
 
     ghost told = { tent_house };
 
+    ghost kind_of = { tent_kind };
+
+    ghost span_of = { tent_span };
+
+    ghost flags = { false };
+
     ghost serves = { HasPairingRoom };
 
-    fn parts(&self, alloc: Global) -> Result<(TentsPuzzle, Vec<HouseName<TentHouse>>), AllocError> {
-        let names = names_of_tents(alloc, self)?;
-        Ok((self.copy(alloc)?, names))
+    fn again(&self, alloc: Global) -> Result<TentsPuzzle, AllocError> {
+        self.copy(alloc)
+    }
+
+    fn measured(&self) -> Measured {
+        measure_tents(self)
+    }
+
+    fn kind(number: usize) -> TentHouse {
+        match number {
+            0 => TentHouse::Column,
+            1 => TentHouse::Row,
+            2 => TentHouse::Tree,
+            _ => TentHouse::Square,
+        }
+    }
+
+    fn span(&self, kind: TentHouse) -> usize {
+        let size = self.size();
+        match kind {
+            TentHouse::Column => usize::from(size.w()),
+            TentHouse::Row => usize::from(size.h()),
+            _ => size.cells(),
+        }
+    }
+
+    fn tells(&self, kind: TentHouse, place: usize) -> bool {
+        let size = self.size();
+        let (w, h) = (usize::from(size.w()), usize::from(size.h()));
+        match kind {
+            TentHouse::Column => true,
+            TentHouse::Row => true,
+            TentHouse::Tree => is_tree(self, place),
+            TentHouse::Square => place % w + 1 < w && place / w + 1 < h,
+        }
     }
 
     fn house(&self, kind: TentHouse, place: usize) -> House {
@@ -82,6 +122,8 @@ impl CountGame for TentsPuzzle {
     fn accept(&self, scratch: &mut PairingScratch, grid: &Grid) -> bool {
         find_fault(self, grid, scratch).is_none()
     }
+
+    ghost houses_are = { tent-kinds };
 }
 
 impl GridGame for TentsPuzzle {
@@ -105,12 +147,7 @@ impl PlaneGame for TentsPuzzle {
 
     type Long = TentNotes<u128>;
 
-    fn completes(
-        &self,
-        _names: &[HouseName<TentHouse>],
-        scratch: &mut PairingScratch,
-        grid: &Grid,
-    ) -> bool {
+    fn completes(&self, _unmet: bool, scratch: &mut PairingScratch, grid: &Grid) -> bool {
         are_paired(self, grid, scratch)
     }
 }

@@ -1,4 +1,4 @@
-use Rattle.fields_core.proofs.Common.{[], ◌∙◌, sym, true≢false, refl}
+use Rattle.fields_core.proofs.Common.{[], refl}
 use Rattle.fields_core.proofs.TentWaits.{houses-swept}
 use Rattle.fields_core.proofs.TentTouching.{last-visited}
 use Rattle.fields_core.proofs.VisitLemmas.{visited-more}
