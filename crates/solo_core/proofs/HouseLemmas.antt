@@ -1,5 +1,5 @@
 -- Houses and crossings: their places, how they decide, and the start.
-use Rattle.solo_core.proofs.Common.{All, Block, Bool, Candidates, Column, Decision, Diagonal, FitsPlaces, House, IsDecided, IsSolo, IsSound, List, Listed, NamedHouse, Row, Solo, [], add-zero, all_below-from, all_houses, all_of, all_places, and_from, and_parts, ap, append-nil, append_assoc, arith, block-within, by_fillings-met, cases_Bool, common_steps, count_plain, count_x, crossing_scopes, crossings_of, deciding, div-mul-add, eqb, ext_get_or, false, filled_houses, fun_ext, get_or, get_or-append_right, get_or-map, get_or-map-range_with_len, get_or_append_left, given_stands, visited_house, house_by, house_count, house_of, house_places, houses_of, houses_rules, if◌then◌else◌, inl, inr, is_solo_solution, kept-decided, length, length-append, length-map, length-map-range_with_len, listed-different, listed-within, lists_house, ltb, map, map-append, map-map, map-range_with_len_more, mod-mul-add, mul-le, mul-le-mul_right, nat_tests, no_house, no_repeat, not, numbers_of, only, places_of, range_with_len, refl, solo_rules_of, scopes_of, setting_of, slice_index, solo_cells, solo_n, some_numbers, start, strikes_by_fillings, suc, sym, take, take-length, take_more, true, true≢false, zero, ℕ, ◌%◌, ◌&&◌, ◌*◌, ◌++◌, ◌+◌, ◌-◌, ◌/◌, ◌<◌, ◌||◌, ◌∙◌, ◌∷◌, ◌≡◌, ◌≤◌}
+use Rattle.solo_core.proofs.Common.{All, Block, Bool, Candidates, Column, Decision, Diagonal, FitsPlaces, House, IsDecided, IsSolo, IsSound, List, Listed, NamedHouse, Row, Solo, [], add-zero, all_below-from, all_houses, all_of, all_places, and_from, and_parts, ap, append-nil, append_assoc, arith, block-within, by_fillings-met, cases_Bool, common_steps, count_plain, count_x, crossing_scopes, crossings_of, deciding, div-mul-add, eqb, ext_get_or, false, filled_houses, fun_ext, get_or, get_or-append_right, get_or-map, get_or-map-range_with_len, get_or_append_left, given_stands, visited_house, house_by, house_count, house_of, house_places, houses_of, houses_rules, if◌then◌else◌, is_solo_solution, kept-decided, length, length-append, length-map, length-map-range_with_len, listed-different, listed-within, lists_house, ltb, map, map-append, map-map, map-range_with_len_more, mod-mul-add, mul-le, mul-le-mul_right, nat_tests, no_house, no_repeat, not, numbers_of, only, places_of, range_with_len, refl, solo_rules_of, scopes_of, setting_of, slice_index, solo_cells, solo_n, some_numbers, start, strikes_by_fillings, suc, sym, take, take-length, take_more, true, true≢false, zero, ℕ, ◌%◌, ◌&&◌, ◌*◌, ◌++◌, ◌+◌, ◌-◌, ◌/◌, ◌<◌, ◌||◌, ◌∙◌, ◌∷◌, ◌≡◌, ◌≤◌}
 use Rattle.solo_core.specs.Work.{closed_lists}
 use Rattle.engine_core.specs.Keeping.{AreSetsOf, IsKept}
 use Rattle.solo_core.specs.declared.houses.visit.VisitName.{VisitName}
@@ -170,13 +170,7 @@ module _ (p : Solo) where
   first_listed k = record { closed = take k (house_places p); begun = [] }
 
   pub few-listed : IsSolo p → length (house_places p) ≤ 95
-  few-listed ok =
-      let long = length-map (houses_of p) (places_of p) in
-      let high = ok.n_high in
-      elim (cases_Bool p.x) [
-        | inl on ↦ omega (arith, count_x p on)
-        | inr off ↦ omega (arith, count_plain p off)
-      ]
+  few-listed ok = grind (arith, common_steps, length-map, cases_Bool, count_x, count_plain, ok.n_high)
 
   pub all-listed : (k : ℕ) {list : Listed} → length (houses_of p) ≡ k → list ≡ first_listed k → list ≡ record { closed = house_places p; begun = [] }
   all-listed k long was = was ∙ rw (← (length-map (houses_of p) (places_of p) ∙ long), take-length (house_places p)) refl

@@ -183,12 +183,7 @@ module _ (n : ℕ) (sets rest : List ℕ) where
 
   pub goes_on_free : (k : ℕ) {mate new : ℕ → ℕ} {free value : ℕ} → IsBegun n sets rest k mate free → ((l : ℕ) → l < k → new l ≡ mate l) → new k ≡ value
       → value < n → has_in sets (slice_index rest k) value ≡ true → has_bit free value ≡ true → PairsOneMore n sets rest k new free value
-  goes_on_free k {free} b same is low has unused = (
-    low,
-    λ left inside off.
-        given b same (rw is low) (rw is has)
-        (λ l lt e. true≢false (sym unused ∙ ap (has_bit free) (sym (e ∙ is)) ∙ b.taken l lt)) inside (rw is off),
-  )
+  goes_on_free k {free} b same is low has unused = grind (arith, common_steps, given, true≢false, b.taken)
 
   -- a cell's value changed for a free one
   module _ (k : ℕ) (mate : ℕ → ℕ) (free value j : ℕ) (b : IsBegun n sets rest k mate free) (lj : j < k) (low : value < n)

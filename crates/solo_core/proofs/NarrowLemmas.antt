@@ -1,4 +1,5 @@
 -- The rest of a house, cell by cell, as it is narrowed and counted.
+use Rattle.std.proofs.lemmas.Grind.{common_steps}
 use Rattle.solo_core.proofs.Common.{AreDifferent, AreSettledCells, AreValueCounts, IsPassedCell, IsSingleSet, KeepsOthers, List, ap, arith, cases_eq, false, get_or-set_at, get_or-set_other, has_bit, has_in, inl, inr, length, length-set, refl, slice_index, slice_set, sym, true, true≢false, ℕ, ◌&&◌, ◌+◌, ◌<◌, ◌||◌, ◌∙◌, ◌≡◌, ◌≤◌, ◌⊎◌}
 use Rattle.solo_core.specs.PeeledHouses.{AreCellsOf}
 use Rattle.solo_core.proofs.PeelLemmas.{counts-more, counts-same}
@@ -14,14 +15,7 @@ pub record IsNarrowed (drops : ℕ → ℕ → Type 0) (values : ℕ) (old new r
 
 pub narrowed-none : {drops : ℕ → ℕ → Type 0} {values settled : ℕ} {old rest : List ℕ} → AreSettledCells old rest settled
     → IsNarrowed drops values old old rest 0 settled settled 0
-narrowed-none settled = record {
-  as_many = refl;
-  counts = settled;
-  inside = λ j v on. on;
-  dropped = λ j v lv on off. absurd (true≢false (sym on ∙ off));
-  ahead = λ t le lt. refl;
-  others = λ k out. refl;
-}
+narrowed-none settled = grind (arith, common_steps, true≢false)
 
 module _ {drops : ℕ → ℕ → Type 0} {values i some single shared : ℕ} {old sets rest : List ℕ} (within : AreCellsOf old rest) (different : AreDifferent rest)
     (n : IsNarrowed drops values old sets rest i some single shared) (lt : i < length rest) {cell : ℕ} (is : cell ≡ slice_index rest i) where

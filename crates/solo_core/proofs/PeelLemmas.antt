@@ -29,23 +29,13 @@ peeled-more {n} a b = record {
 -- ---- counts
 pub counts-none : {sets : List ℕ} {cells : ℕ → Type 0} {some single shared : ℕ} → ((j : ℕ) → cells j → ⊥)
     → (some ≡ 0) × (single ≡ 0) × (shared ≡ 0) → AreValueCounts sets cells some single shared
-counts-none none (a, b, c) = record {
-  has = λ j v on has. absurd (none j on);
-  singles = λ v on. absurd (none_in_zero v (rw b at on));
-  shares = λ j k v on_j on_k ne has_j has_k. absurd (none j on_j);
-}
+counts-none none (a, b, c) = grind (arith, common_steps, none_in_zero)
 
 -- the counts are those of the same cells of another list that has the same sets there
 pub counts-same : {sets new : List ℕ} {cells same : ℕ → Type 0} {some single shared : ℕ} → AreValueCounts sets cells some single shared
     → ((j : ℕ) → cells j → slice_index new j ≡ slice_index sets j) → ((j : ℕ) → same j → cells j) → ((j : ℕ) → cells j → same j)
     → AreValueCounts new same some single shared
-counts-same {sets} {new} {cells} {same} c is from to =
-    let back = λ (j v : ℕ) (on : same j) (has : has_in new j v ≡ true). sym (ap (λ b. has_bit b v) (is j (from j on))) ∙ has in
-    record {
-      has = λ j v on has. c.has j v (from j on) (back j v on has);
-      singles = λ v on. let w = c.singles v on in (w.0, to w.0 w.1, rw (is w.0 w.1) w.2);
-      shares = λ j k v on_j on_k ne has_j has_k. c.shares j k v (from j on_j) (from k on_k) ne (back j v on_j has_j) (back k v on_k has_k);
-    }
+counts-same {sets} {new} {cells} {same} c is from to = grind (arith, common_steps, c.has, c.singles, c.shares)
 
 -- the counts of one more cell
 pub counts-more : {sets : List ℕ} {cells more : ℕ → Type 0} (cell : ℕ) {some single shared some' single' shared' : ℕ}
@@ -251,10 +241,7 @@ put-other k v f x ne other = grind (arith, nat_tests)
 
 put-permutes : {n k v : ℕ} {f : ℕ → ℕ} → Permutes n f → k < n → v < n → Permutes n (put k v f)
 unfolding put
-put-permutes {n} {k} {v} {f} p lk lv = record {
-  below = λ x lx. grind (arith, nat_tests, p.below x lx, p.below k lk);
-  differ = λ x y lx ly e. p.differ x y lx ly (grind (arith, nat_tests));
-}
+put-permutes {n} {k} {v} {f} p lk lv = grind (arith, common_steps, nat_tests, p.below, p.differ)
 
 -- ---- the values of the cells that are alone
 module _ {n : ℕ} {sets : List ℕ} (square : length sets ≡ n) (cells : ℕ → Bool) (alone : AreAlone n sets cells) where

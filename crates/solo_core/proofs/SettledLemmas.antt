@@ -1,4 +1,5 @@
 -- Cells that are settled, and what is left of the others.
+use Rattle.std.proofs.lemmas.Grind.{common_steps}
 use Rattle.std.specs.Prelude.{count_ones}
 use Rattle.std.proofs.lemmas.Nat.{ones_le_self}
 use Rattle.std.proofs.lemmas.Bool.{ltb-true}
@@ -12,18 +13,7 @@ use Rattle.solo_core.proofs.PeelLemmas.{counts-more, counts-same, rest-lone, res
 
 -- ---- cell by cell
 pub settled-none : {values settled : ℕ} {sets : List ℕ} → ((v : ℕ) → has_bit settled v ≡ true → ⊥) → AreSettledBut values sets [] 0 settled
-settled-none none = record {
-  few = omega arith;
-  within = λ t lt. absurd (omega arith);
-  different = λ j k lj lk e. absurd (omega arith);
-  some = λ k lt out. absurd (omega arith);
-  counts = record {
-    has = λ j v on has. absurd (omega (arith, on.0));
-    singles = λ v on. absurd (none v on);
-    shares = λ j k v on_j on_k ne has_j has_k. absurd (omega (arith, on_j.0));
-  };
-  below = λ v on. absurd (none v on);
-}
+settled-none none = grind (arith, common_steps)
 
 module _ {values n settled : ℕ} {sets rest : List ℕ} (s : AreSettledBut values sets rest n settled) where
   -- a cell that has one value alone, which is not settled yet

@@ -1,4 +1,5 @@
-use Rattle.solo_core.proofs.Common.{arith, length, length-append, length-take, lists_house, places_of, take-length, ◌≡◌}
+use Rattle.std.proofs.lemmas.Grind.{common_steps}
+use Rattle.solo_core.proofs.Common.{arith, length-append, length-take, lists_house, places_of, take-length}
 use Rattle.solo_core.proofs.HouseLemmas.{house-more}
 use Rattle.solo_core.proofs.houses.lists.push_house.Goals as goal
 
@@ -12,7 +13,4 @@ loop-k-preserved c =
     (omega (arith, (lists_house c.n.ensures.lawful c.args.house c.requires.house_of).len)) c.place.ensures.place c.loop-k.invariant c.in_ok-push.ensures
 
 pub returns-clause-begun : goal.returns-clause-begun
-returns-clause-begun c =
-    let places = places_of c.args.puzzle.now c.args.house in
-    let all : c.loop-k.k ≡ length places = omega (arith, (lists_house c.n.ensures.lawful c.args.house c.requires.house_of).len) in
-    rw (all, take-length places) at c.loop-k.invariant
+returns-clause-begun c = grind (arith, common_steps, lists_house, take-length, c.n.ensures.lawful, c.requires.house_of, c.loop-k.invariant)

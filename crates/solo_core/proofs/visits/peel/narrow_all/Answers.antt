@@ -1,4 +1,5 @@
-use Rattle.solo_core.proofs.Common.{arith, refl}
+use Rattle.std.proofs.lemmas.Grind.{common_steps}
+use Rattle.solo_core.proofs.Common.{arith}
 use Rattle.solo_core.proofs.NarrowLemmas.{narrowed-more}
 use Rattle.solo_core.proofs.PeelLemmas.{counts-same, peeled-step}
 use Rattle.solo_core.proofs.visits.peel.narrow_all.Goals as goal
@@ -16,7 +17,4 @@ returns-clause-peeled c =
     (λ k v lk on. i.inside k v on) (λ k v lk lv on off. i.dropped k v lv on off)
 
 pub returns-clause-counts : goal.returns-clause-counts
-returns-clause-counts c =
-    let i = c.loop-i.invariant in
-    counts-same i.counts (λ j on. refl) (λ j lt. (omega (arith, i.as_many), λ t le lr is. absurd (omega arith)))
-    (λ j on. omega (arith, i.as_many, on.0))
+returns-clause-counts c = grind (arith, common_steps, counts-same, c.loop-i.invariant)

@@ -1,9 +1,10 @@
+use Rattle.std.proofs.lemmas.Grind.{common_steps}
 use mir.Val.{bool_byte}
 use Rattle.std.specs.Int.Bits.{or_zero_r}
 use Rattle.std.specs.Prelude.{count_ones}
 use Rattle.std.proofs.lemmas.Bool.{le-ltb}
 use Rattle.std.proofs.lemmas.List.{take-set, take_more_set}
-use Rattle.solo_core.proofs.Common.{Bool, List, add-zero, and_le_r, not, if◌then◌else◌, eqb, ap, arith, bit_and, bit_or, both-bits, cases_Bool, cases_eq, cases_lt, either-bits, eq-eqb, ext_get_or, false, get_or-set_at, get_or-set_other, has_bit, inl, inr, length, length-set, length-take, ltb, lt-ltb, nat_tests, ne_eqb, refl, slice_index, slice_set, sym, take, true, ℕ, ◌+◌, ◌<◌, ◌∙◌, ◌≡◌, ◌≤◌}
+use Rattle.solo_core.proofs.Common.{Bool, List, add-zero, and_le_r, not, if◌then◌else◌, eqb, ap, arith, bit_and, bit_or, both-bits, cases_Bool, cases_eq, cases_lt, either-bits, eq-eqb, ext_get_or, false, get_or-set_at, get_or-set_other, has_bit, inl, inr, length, length-set, length-take, ltb, lt-ltb, nat_tests, ne_eqb, slice_index, slice_set, sym, take, true, ℕ, ◌+◌, ◌<◌, ◌∙◌, ◌≡◌, ◌≤◌}
 use Rattle.solo_core.proofs.BitLemmas.{none_in_zero}
 use Rattle.solo_core.proofs.SettledLemmas.{IsSettling, settled-but, settled-none, settling-but, settling-more, settling-none}
 use Rattle.solo_core.proofs.visits.settle.settle.Goals as goal
@@ -15,19 +16,10 @@ byte-low false = omega arith
 -- one cell more is copied
 copied-more : (copy sets : List ℕ) (k : ℕ) → length copy ≡ length sets → k < length sets → ((j : ℕ) → j < k → slice_index copy j ≡ slice_index sets j)
     → (j : ℕ) → j < k + 1 → slice_index (slice_set copy k (slice_index sets k)) j ≡ slice_index sets j
-copied-more copy sets k e lk was j lt = elim (cases_eq j k) [
-  | inl same ↦ get_or-set_at copy k j (slice_index sets k) 0 same (omega (arith, e)) ∙ rw same refl
-  | inr ne ↦ get_or-set_other copy k j (slice_index sets k) 0 ne ∙ was j (omega arith)
-]
+copied-more copy sets k e lk was j lt = grind (arith, common_steps, cases_eq, get_or-set_at, get_or-set_other)
 
 pub loop-cell-init : goal.loop-cell-init
-loop-cell-init c = record {
-  as_many = c.requires.as_many;
-  copied = λ j lt. absurd (omega arith);
-  room = refl;
-  within = omega arith;
-  settling = settling-none c.args.values c.args.sets.now;
-}
+loop-cell-init c = grind (arith, common_steps, settling-none, c.requires.as_many)
 
 pub bounds-rest-count : goal.bounds-rest-count
 bounds-rest-count c = omega (arith, c.loop-cell.invariant.within, c.loop-cell.invariant.room, c.requires.room)
@@ -85,11 +77,7 @@ pub returns-then-settled-count-clause-copied : goal.returns-then-settled-count-c
 returns-then-settled-count-clause-copied c = let i = c.loop-cell.invariant in ext_get_or 0 _ _ i.as_many (λ j lt. i.copied j (omega (arith, i.as_many)))
 
 pub returns-then-settled-count-clause-settled : goal.returns-then-settled-count-clause-settled
-returns-then-settled-count-clause-settled c =
-    let i = c.loop-cell.invariant in
-    let all : c.loop-cell.cell ≡ length c.args.sets.now = omega arith in
-    let listed = length-take c.loop-cell.count c.loop-cell.rest in
-    rw all at (i.settling.settled (omega (arith, c.if-settled-count.true, listed, i.within, i.room, c.requires.room)))
+returns-then-settled-count-clause-settled c = grind (arith, common_steps, length-take, c.loop-cell.invariant, c.if-settled-count.true, c.requires.room)
 
 pub loop-cell-2-init : goal.loop-cell-2-init
 loop-cell-2-init c = record { room = c.loop-cell.invariant.room; settled = settled-none none_in_zero }

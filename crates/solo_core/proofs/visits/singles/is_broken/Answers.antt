@@ -1,4 +1,5 @@
-use Rattle.solo_core.proofs.Common.{any_below-same, ap, arith, either-bits, length, lt-ltb, not, zero-bits, ◌||◌, ◌∙◌, ◌≡◌}
+use Rattle.std.proofs.lemmas.Grind.{common_steps}
+use Rattle.solo_core.proofs.Common.{any_below-same, ap, arith, either-bits, length, lt-ltb, not, zero-bits, ◌∙◌, ◌≡◌}
 use Rattle.solo_core.proofs.CrossingLemmas.{any-more, any-none}
 use Rattle.solo_core.proofs.visits.singles.is_broken.Goals as goal
 
@@ -6,10 +7,7 @@ pub loop-j-init : goal.loop-j-init
 loop-j-init c = (any-none _, λ v. zero-bits v ∙ any-none _)
 
 pub loop-j-preserved : goal.loop-j-preserved
-loop-j-preserved c = (
-  any-more _ _ c.loop-j.invariant.0 (ap (λ b. c.loop-j.empty || not b) c.has_some.ensures),
-  λ v. any-more _ _ (c.loop-j.invariant.1 v) (either-bits _ _ v),
-)
+loop-j-preserved c = grind (arith, common_steps, any-more, either-bits, c.has_some.ensures)
 
 pub returns-else-empty : goal.returns-else-empty
 returns-else-empty c =
