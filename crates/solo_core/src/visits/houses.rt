@@ -68,7 +68,6 @@ fn keep_settled(
 
 /// The same where the values of settled cells are struck from the rest, and the values of all cells are counted. Says whether
 /// anything may be struck, or was before.
-#[inline(always)]
 pub(crate) fn keep_counted(
     values: u8,
     counts: Counts,
