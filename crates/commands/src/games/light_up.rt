@@ -41,6 +41,11 @@ impl Solvable for LightPuzzle {
 
     #[tactic(auto, using(crate::proofs::SearchedPuzzles::light_accepted))]
     fn rules(&self, alloc: Global) -> Result<LightRules, AllocError> {
+        LightRules::for_search(alloc, self)
+    }
+
+    #[tactic(auto, using(crate::proofs::SearchedPuzzles::light_accepted))]
+    fn visited_rules(&self, alloc: Global) -> Result<LightRules, AllocError> {
         LightRules::new(alloc, self)
     }
 
@@ -69,7 +74,7 @@ impl Graded for LightPuzzle {
         options: GradeOptions,
         output: &mut O,
     ) -> RunResult {
-        let local = self.rules(alloc)?;
+        let local = self.visited_rules(alloc)?;
         let set = GradedRules::Local;
         let attempt = Attempt { set, options };
         attempt.say_by(alloc, self, &local, output)

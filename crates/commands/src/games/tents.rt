@@ -43,6 +43,11 @@ impl Solvable for TentsPuzzle {
 
     #[tactic(auto, using(crate::proofs::SearchedPuzzles::tents_accepted))]
     fn rules(&self, alloc: Global) -> Result<TentRules, AllocError> {
+        TentRules::for_search(alloc, self)
+    }
+
+    #[tactic(auto, using(crate::proofs::SearchedPuzzles::tents_accepted))]
+    fn visited_rules(&self, alloc: Global) -> Result<TentRules, AllocError> {
         TentRules::new(alloc, self)
     }
 
@@ -73,7 +78,7 @@ impl Graded for TentsPuzzle {
         options: GradeOptions,
         output: &mut O,
     ) -> RunResult {
-        let local = self.rules(alloc)?;
+        let local = self.visited_rules(alloc)?;
         let set = GradedRules::Local;
         let attempt = Attempt { set, options };
         attempt.say_by(alloc, self, &local, output)

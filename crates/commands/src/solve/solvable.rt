@@ -31,6 +31,14 @@ pub trait Solvable: Played {
         ensures values { (Self.game.rules self.now).values ≡ Self.value_count self.now }
         ensures solutions { Accepts (Self.game.rules self.now) (Self.game.solves self.now) };
 
+    /// The same rules, for closings that visit each house.
+    fn visited_rules(&self, alloc: Global) -> Result<Self::Search, AllocError>
+        ensures made { IfOk result (λ rules. meaning rules ≡ Self.game.rules self.now) }
+        ensures solutions { Accepts (Self.game.rules self.now) (Self.game.solves self.now) }
+    {
+        self.rules(alloc)
+    }
+
     /// Adds the name under the number, in the order of the puzzle's rule sets.
     fn push_name(&self, number: usize, text: &mut String) -> Result<(), AllocError>
         requires { number < named self.now }
