@@ -65,7 +65,7 @@ fn is_alone(
     ensures full { IfOk result (λ alone. AreAll 1 filling.now.black → alone ≡ true) }
 {
     let puzzle = puzzle_of(alloc, size, filling)?;
-    let rules = LightRules::new(alloc, &puzzle)?;
+    let rules = LightRules::for_search(alloc, &puzzle)?;
     is_unique(alloc, &rules, &filling.bulbs, budget)
 }
 

@@ -74,7 +74,7 @@ fn is_alone(
         (λ yes. yes ≡ true → HasOne (tent_rules_filled size filling.now) budget) }
 {
     let puzzle = puzzle_of(alloc, size, filling)?;
-    let rules = TentRules::new(alloc, &puzzle)?;
+    let rules = TentRules::for_search(alloc, &puzzle)?;
     is_unique(alloc, &rules, &filling.tents, budget)
 }
 
