@@ -89,6 +89,6 @@ impl Clued for LightPuzzle {
     }
 
     fn search(&self, alloc: Global) -> Result<LightRules, AllocError> {
-        LightRules::new(alloc, self)
+        LightRules::for_search(alloc, self)
     }
 }
