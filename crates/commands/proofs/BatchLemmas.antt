@@ -1,5 +1,5 @@
 -- The steps of a batch, and the chunks of its input.
-use Rattle.commands.proofs.Common.{All, All-append, All-nil, AllowsEach, Answer, Answered, Batched, Begins, BeginsLines, Begun, Bool, Err, Gathered, Given, HasAnswers, HasNoNewline, Holds, IfErr, IsInput, List, Ok, PutBegun, Ran, Result, Stopped, Text, [], answer_with, ap, append-nil, append_assoc, arith, both, code_of, common_steps, drop, false, get_or, if◌then◌else◌, inl, inr, length, lines, lines_of_parts, max, refl, silence, slice_split, strip_carriage_return, subst, sym, take, take-append-drop, true, true≢false, ℕ, ◌++◌, ◌+◌, ◌<◌, ◌==◌, ◌∙◌, ◌∷◌, ◌≡◌, ◌≤◌, ◌⊎◌}
+use Rattle.commands.proofs.Common.{All, All-append, All-nil, AllowsEach, Answer, Answered, Batched, Begins, BeginsLines, Begun, Bool, Err, Gathered, Given, HasAnswers, HasNoNewline, Holds, IfErr, IsInput, List, Ok, PutBegun, Ran, Result, Stopped, Text, [], answer_with, ap, append-nil, append_assoc, arith, both, code_of, common_steps, false, if◌then◌else◌, inl, inr, length, lines, lines_of_parts, max, refl, silence, slice_split, strip_carriage_return, subst, sym, true, true≢false, ℕ, ◌++◌, ◌<◌, ◌==◌, ◌∙◌, ◌∷◌, ◌≡◌, ◌≤◌, ◌⊎◌}
 use Rattle.std.proofs.lemmas.List.Splits.{slice_split_at, slice_split_none, length-slice_split}
 use Rattle.commands.specs.declared.batch.Batch.{Batch}
 use Rattle.commands.specs.declared.ends.Sink as sinks
@@ -65,6 +65,10 @@ module _ {allows : Text → Answer → Type 0} where
   gathers_up_to answers {batch} {seen} {written} more g = λ rest.
       let z = each_has allows answers (lines (g.piece ++ (more ++ rest))) in
       (both (answer_with (written ++ batch.answers.items) (code_of batch.status)) z.0, rw (append_assoc seen more rest) (g.goes_on (more ++ rest) z.0 z.1), (z.0.text, refl))
+
+  pub gathers_before : HasAnswers allows → {batch : Batch} {written bytes : Text} (seen before rest : Text) → bytes ≡ before ++ rest
+      → Gathered allows batch (seen ++ before) written → BeginsLines allows (seen ++ bytes) (written ++ batch.answers.items)
+  gathers_before answers {batch} seen before rest is g = rw (is, ← append_assoc seen before rest) (gathers_up_to answers rest g)
 
   -- the end of the input, after a newline
   pub gathers_none : {batch : Batch} {seen written : Text} → Gathered allows batch seen written

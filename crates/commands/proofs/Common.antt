@@ -64,7 +64,7 @@ pub use Rattle.commands.specs.Allowed.{Allows, AllowsCheck, AllowsGrade, AllowsI
 pub use Rattle.commands.specs.Allowed.{handed_out, wanted}
 pub use Rattle.commands.specs.Answers.{Answer, Begins, BeginsAnswer, Delivers, IsInput, PutBegun, PutUpTo, Text, answer_with, code_of, status_of}
 pub use Rattle.commands.specs.Answers.{Asked, check, generate, grade, solve}
-pub use Rattle.commands.specs.Batches.{AllowsTask, Batched, Gathered, Holds, TakesTask}
+pub use Rattle.commands.specs.Batches.{AllowsTask, Batched, Gathered, HasNoNewline, Holds, TakesTask}
 pub use Rattle.commands.specs.CheckAnswers.{AllowsGrid, IsInputOf, SaysFault, begins_with_line_end, checked}
 unfoldable pub use Rattle.commands.specs.CheckAnswers.{without_returns}
 pub use Rattle.commands.specs.Common.{Extent, Game, HasOneReading, IdFault, IsAsShown, IsClosed, IsExtent, IsGrid, IsInside, IsLawful, IsLightSolution}

@@ -1,5 +1,5 @@
 -- What the laws rest on for each game, and least budgets.
-use Rattle.commands.proofs.Common.{AllowsCheck, AllowsGrid, AllowsSolve, Answer, ArePassed, Bool, ByRules, BySearch, Crossings, Err, Game, Grade, GradedPuzzlesHaveOne, HasAnswers, HasOneAnswer, HasOneReading, HasOneSolution, HasTwo, Houses, IdFault, IsLeastBudget, IsOnlySolution, IsPrinted, IsRight, IsRightGrade, IsSolo, IsSolved, Lines, List, Local, MadePuzzle, Mark, NamedRules, NamesSearch, NamesSet, None, Option, Outcome, Outcome.GaveUp, Outcome.NoSolution, Outcome.OneSolution, Outcome.SeveralSolutions, Passes, PuzzleFacts, Result, RuleSystem, SaysGrade, SearchesNameLeastBudgets, Singles, SizeRead, Solo, Solves, Some, Text, TooLong, Wanted, [], ap, arith, codes, common_steps, cond_both, crossings_rules, drop, eq-or-lt_of_le, false_from_ne_true, game_of, gave_up_answer, grade_by, grade_text, houses_rules, inl, inr, is_ok, is_settled, length, light_is_written, light_reading, light_rules, line_rules, listed_grade, max_id, one_answer, only_set, outcome, pattern_is_written, pattern_reading, printed_by, puzzle_type, puzzle_too_long, refl, refused, searched_grade, singles_rules, slice_index, solo_is_written, solo_reading, solo_sets, subst, sym, tent_rules, tents_is_written, tents_reading, trials_in, true, true≢false, verdict_answer, verdict_of, walk, without_returns, ℕ, ◌++◌, ◌<◌, ◌↔◌, ◌∙◌, ◌∷◌, ◌≡◌, ◌≢◌, ◌≤◌, ◌⊎◌}
+use Rattle.commands.proofs.Common.{AllowsCheck, AllowsGrid, AllowsSolve, Answer, ArePassed, Bool, ByRules, BySearch, Crossings, Err, Game, Grade, GradedPuzzlesHaveOne, HasAnswers, HasOneAnswer, HasOneReading, HasOneSolution, HasTwo, Houses, IdFault, IsLeastBudget, IsOnlySolution, IsPrinted, IsRight, IsRightGrade, IsSolo, IsSolved, Lines, List, Local, MadePuzzle, Mark, NamedRules, NamesSearch, NamesSet, None, Option, Outcome, Outcome.GaveUp, Outcome.NoSolution, Outcome.OneSolution, Outcome.SeveralSolutions, Passes, PuzzleFacts, Result, RuleSystem, SaysGrade, SearchesNameLeastBudgets, Singles, SizeRead, Solo, Solves, Some, Text, TooLong, Wanted, [], ap, arith, codes, common_steps, cond_both, crossings_rules, drop, eq-or-lt_of_le, game_of, gave_up_answer, grade_by, grade_text, houses_rules, inl, inr, is_ok, is_settled, length, light_is_written, light_reading, light_rules, line_rules, listed_grade, max_id, one_answer, only_set, outcome, pattern_is_written, pattern_reading, printed_by, puzzle_type, puzzle_too_long, refl, refused, searched_grade, singles_rules, slice_index, solo_is_written, solo_reading, solo_sets, subst, sym, tent_rules, tents_is_written, tents_reading, trials_in, true, verdict_answer, verdict_of, walk, without_returns, ℕ, ◌++◌, ◌<◌, ◌↔◌, ◌∙◌, ◌∷◌, ◌≡◌, ◌≢◌, ◌≤◌, ◌⊎◌}
 use Rattle.gameid_core.specs.declared.id.game.Game.TheVariants as game
 use Rattle.commands.specs.CheckAnswers.{checked as correct_or}
 use Rattle.commands.proofs.GradeLemmas.{graded_one, is_within, named_or_searched, own_named, settled_one, spent_whole, status_one, told_status, weaker_named}

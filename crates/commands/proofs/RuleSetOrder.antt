@@ -2,11 +2,11 @@
 use Rattle.std.proofs.lemmas.List.{get_or_append_left}
 use Rattle.std.proofs.lemmas.List.Elements.{All-from_recursion}
 use Rattle.gameid_core.specs.declared.id.game.Game.TheVariants as game
-use Rattle.engine_core.specs.HouseRules.{House, house_of, no_house}
+use Rattle.engine_core.specs.HouseRules.{House, no_house}
 use Rattle.engine_core.specs.HouseSets.{strikes_at}
 use Rattle.solo_core.proofs.SinglesLemmas.{singles_in_houses}
 use Rattle.solo_core.specs.RuleSets.{crossings_of, filled_houses}
-use Rattle.commands.proofs.Common.{All-nil, IsSolo, NamedRules, Solo, arith, crossings_rules, false, false_from_ne_true, houses_rules, is_settled, length, length-append, refl, sets_after_houses, sets_after_singles, solo_n, singles_rules, subst, sym, true, true≢false, ℕ, ◌++◌, ◌<◌, ◌∙◌, ◌≡◌}
+use Rattle.commands.proofs.Common.{All-nil, IsSolo, NamedRules, Solo, arith, crossings_rules, false, false_from_ne_true, houses_rules, is_settled, length, length-append, refl, sets_after_houses, sets_after_singles, solo_n, singles_rules, subst, sym, true, true≢false, ◌++◌, ◌<◌, ◌∙◌, ◌≡◌}
 use Rattle.commands.specs.LawsOfCommands.{GradesNameTheWeakest}
 use Rattle.commands.proofs.GradeLemmas.{settled_by_stronger}
 use Rattle.commands.proofs.SearchedPuzzles.{crossings_searched, singles_searched, solo_searched}

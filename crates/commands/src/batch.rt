@@ -126,7 +126,8 @@ impl Batch {
             self.answer_line(alloc, task)?;
             rest = more;
         }
-        self.line.take(LINE_LIMIT, rest)
+        self.line.take(LINE_LIMIT, rest)?;
+        Ok(())
     }
 
     /// Takes a chunk of the input, and puts the answers to the lines that ended in it: also those

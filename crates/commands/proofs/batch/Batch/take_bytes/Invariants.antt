@@ -1,4 +1,4 @@
-use Rattle.commands.proofs.Common.{AllowsTask, Gathered, Text, length, ◌++◌, ◌×◌, ◌≡◌}
+use Rattle.commands.proofs.Common.{AllowsTask, Gathered, Text, length, ◌++◌, ◌≡◌}
 use Rattle.commands.proofs.batch.Batch.take_bytes.Given as goal
 
 abbrev pub invariant-loop-line : goal.invariant-loop-line
