@@ -33,12 +33,12 @@ class Maker:
         found = self.journal.get(key)
         return found and Made(seed, *found)
 
-    def taken(self, game, text):
+    def taken(self, game, text, seed):
         """A puzzle of a file, which must have one solution."""
         verdict, *answer = self.program.ask("solve", "--", game, text)
         if verdict != "one":
             raise Fault(f"no puzzle for a book, since `solve` answers {verdict}: {text}", REFUSED)
-        return Made("", text, answer, self.program.ask("grade", "--", game, text)[0], 0)
+        return Made(seed, text, answer, self.program.ask("grade", "--", game, text)[0], 0)
 
     def made(self, asked, seed):
         ask, is_crossed = self.program.ask, asked.size.endswith("x")
@@ -65,16 +65,18 @@ class Maker:
 def fill(maker, chapters, first, bar):
     """The puzzles of each chapter: of its file, or by ascending seeds. Chapters take turns at these, so no grid comes twice."""
     found, done, turns, step = [], 0, itertools.count(first), sum(not one.ids for one in chapters)
+    chosen = {(one.game, text) for one in chapters for text in one.ids}
     with concurrent.futures.ThreadPoolExecutor(os.cpu_count()) as pool:
         try:
             for asked in chapters:
                 tell = functools.partial(told, bar, done)
                 if asked.ids:
-                    found.append(list(progress(pool.map(functools.partial(maker.taken, asked.game), asked.ids), tell)))
+                    seeds = asked.seeds or [""] * len(asked.ids)
+                    found.append(list(progress(pool.map(functools.partial(maker.taken, asked.game), asked.ids, seeds), tell)))
                 else:
                     start = next(turns)
                     made = in_order(maker, pool, asked, range(start, start + SEEDS_FOR_ONE * asked.count * step, step))
-                    found.append(fill_one(asked, made, tell))
+                    found.append(fill_one(asked, made, tell, chosen))
                 done += asked.count
         except BaseException:
             maker.program.stop()
@@ -110,13 +112,14 @@ def in_order(maker, pool, asked, seeds):
             future.cancel()
 
 
-def fill_one(asked, made, tell):
-    """The puzzles of a chapter, of the seeds in `made`."""
+def fill_one(asked, made, tell, chosen):
+    """The puzzles of a chapter, of the seeds in `made`, and none of those that files have."""
     taken, is_barren, wanted = [], True, asked.needed()
     with contextlib.closing(made):
         for tried, (seed, one) in enumerate(made, 1):
             is_barren = is_barren and not one
-            taken += [one] if one and levels.takes(asked.level, asked.game, one.grade) else []
+            is_new = one and levels.takes(asked.level, asked.game, one.grade) and (asked.game, one.id) not in chosen
+            taken += [one] if is_new else []
             tell(asked.count * len(taken) // wanted, seed)
             if len(taken) == wanted:
                 return asked.chosen(taken)

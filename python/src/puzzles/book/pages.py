@@ -11,6 +11,8 @@ from ..ids import Room, read, read_grid, svg
 CONTENTS_HEIGHT = 7.2  # of a line, in millimetres
 RULES_ROOM = 225  # millimetres of a page that has all rules of a game, if grades are told
 BREAK = "<hr>"  # between two pages of a file
+# Front matter is text and pictures: no script runs, and no other page comes in.
+POLICY = """<meta http-equiv="Content-Security-Policy" content="default-src 'none'; style-src 'unsafe-inline'; img-src data: file:">"""
 EXAMPLES = {"solo": "2x2:1b4i3_2a", "pattern": "5x5:2/4/4/4/2/1.1/5/5/3/1", "lightup": "5x5:2c0cBfB01c2a1B",
             "tents": "5x5:ca_bgdb,1,2,1,1,1,3,0,1,1,1"}
 STYLE = pathlib.Path(__file__).resolve().with_name("book.css")
@@ -51,7 +53,7 @@ class Book:
             width=paper.width, height=paper.height, side=paper.side, inner=paper.side + self.sheet.gutter, text=paper.text,
             drop=paper.height / 5, room=self.sheet.height, top=layout.TOP, bottom=layout.BOTTOM, heading=layout.HEADING,
             gap=layout.GAP, solved_gap=layout.SOLVED_GAP, label=layout.LABEL, caption=layout.CAPTION)
-        return (f'<!doctype html><html lang="{self.texts["language"]}"><meta charset="utf-8"><title>{html.escape(self.title)}'
+        return (f'<!doctype html><html lang="{self.texts["language"]}"><meta charset="utf-8">{POLICY}<title>{html.escape(self.title)}'
                 f"</title><style>{style}</style><body>{''.join(self.pages)}")
 
     def name(self, puzzle):
@@ -62,11 +64,13 @@ class Book:
         return f"<figure><figcaption>{caption}</figcaption>{drawn}{below}</figure>"
 
 
-def add_front(book, count, front):
-    """The first page, and those of a file of HTML."""
+def add_front(book, count, front, more):
+    """The first page, and those of a file of HTML. `more` has what else stands on the first: subtitle, picture, author."""
     texts = book.texts
     counted = texts["one puzzle"] if count == 1 else texts["puzzles"].format(count=count)
-    book.add(f"<h1>{html.escape(book.title)}</h1><p>{counted}</p>")
+    lines = {name: f"<p class={name}>{html.escape(more[name])}</p>" if more.get(name) else "" for name in ("subtitle", "author")}
+    drawn = f'<img class=picture src="{more["picture"]}" alt="">' if more.get("picture") else ""
+    book.add(f"<h1>{html.escape(book.title)}</h1>{lines['subtitle']}<p class=count>{counted}</p>{drawn}{lines['author']}")
     for part in front.split(BREAK) if front else []:
         book.add(part, has_number=False)
 
@@ -80,14 +84,16 @@ def add_contents(book, listed, count):
         book.add(f"{book.head(book.texts['contents'])}<table class=contents>{''.join(rows[first:first + step])}</table>")
 
 
-def add_rules(book, game, solve):
-    """The rules of a game, on one page or two; `solve` gives the rows of the only solution of an ID."""
+def add_rules(book, game, solve, is_crossed):
+    """The rules of a game, on one page or two, those of the diagonals where the book has some. `solve` gives the rows of the only
+    solution of an ID."""
     texts, puzzle = book.texts, read(game, EXAMPLES[game])
     solved, cell = read_grid(puzzle, solve(game, EXAMPLES[game])), min(9, 45 / puzzle.width)
     head = book.head(how(texts, game), texts["other names"][game])
     drawn = "".join(book.drawing(puzzle, cells, cell, caption, is_small=False)
                     for cells, caption in ((None, texts["the puzzle"]), (solved, texts["its solution"])))
-    rules = (f"<ol>{''.join(f'<li>{rule}</li>' for rule in texts['rules'][game])}</ol>"
+    all_rules = [*texts["rules"][game], *(texts["rules"]["solo x"] if is_crossed else [])]
+    rules = (f"<ol>{''.join(f'<li>{rule}</li>' for rule in all_rules)}</ol>"
              f"<p class=part>{texts['example']}</p><div class=example>{drawn}</div>")
     begin = f"<p class=part>{texts['how to begin']}</p><p>{texts['beginnings'][game]}</p>"
     meanings = f"<p>{texts['one solution']}</p>" if book.sheet.is_bare else grades(texts, game)
@@ -114,8 +120,8 @@ def grades(texts, game):
 def heading(book, asked, puzzle):
     """What a chapter is called; the size of Solo counts blocks."""
     words = {"name": book.name(puzzle), "size": asked.size, "width": puzzle.width, "height": puzzle.height,
-             "level": book.texts["levels"][asked.level], "file": html.escape(asked.size)}
-    kind = "heading of a file" if asked.ids else "heading of any" if asked.level == "any" else "heading"
+             "level": book.texts["levels"][asked.level], "file": html.escape(asked.title)}
+    kind = "heading of a file" if asked.title else "heading of any" if asked.level == "any" else "heading"
     return book.texts[kind].format(**words)
 
 
@@ -129,7 +135,7 @@ def add_chapter(book, asked, entries, page_of_solution):
     texts, puzzle = book.texts, entries[0].puzzle
     at = places(book.sheet, [entry.puzzle for entry in entries], [entry.id for entry in entries])
     words, step = heading(book, asked, puzzle), at.across * at.down
-    is_told = puzzle.block and "{size}" in texts["heading"] and not asked.ids
+    is_told = puzzle.block and "{size}" in texts["heading"] and not asked.title
     cells = texts["cells"].format(width=puzzle.width, height=puzzle.height) if is_told else ""
     rows = f"repeat({at.down},{book.sheet.height / at.down:.2f}mm)"
     style = f"grid-template:{rows}/repeat({at.across},1fr);padding-top:{at.spare / 2:.2f}mm"

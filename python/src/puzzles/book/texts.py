@@ -3,17 +3,19 @@ import html
 import json
 import pathlib
 import string
+from typing import Any, Dict, Optional, Set
 
 from .._work import REFUSED, Fault
 
 FOLDER = pathlib.Path(__file__).resolve().parent / "words"
 ENGLISH = FOLDER / "english.json"
 MOST_BYTES = 1_000_000
+Texts = Dict[str, Any]  # texts, lists of them and tables of them, by name
 
 
-def load(name):
+def load(name: Optional[str]) -> Texts:
     """The texts by a file's name, or by the name of one in words/; escaped for HTML."""
-    texts = json.loads(ENGLISH.read_text(encoding="utf-8"))
+    texts: Texts = json.loads(ENGLISH.read_text(encoding="utf-8"))
     if name:
         path = FOLDER / f"{name}.json" if (FOLDER / f"{name}.json").exists() else pathlib.Path(name)
         with open(path, "rb") as file:
@@ -22,10 +24,11 @@ def load(name):
             replaced(texts, json.loads(content), str(path))
         except (ValueError, RecursionError) as fault:
             raise Fault(f"{path} is no JSON: {fault}", REFUSED) from None
-    return escaped(texts)
+    found: Texts = escaped(texts)
+    return found
 
 
-def replaced(texts, own, place):
+def replaced(texts: Texts, own: object, place: str) -> None:
     """Puts texts in the place of others. Each must be one that a book has."""
     if not isinstance(own, dict):
         raise Fault(f"{place} must be an object", REFUSED)
@@ -43,11 +46,11 @@ def replaced(texts, own, place):
             texts[name] = checked(text, texts[name], here)
 
 
-def fields(text):
+def fields(text: str) -> Set[str]:
     return {field for _, field, _, _ in string.Formatter().parse(text) if field is not None}
 
 
-def checked(text, model, place):
+def checked(text: Any, model: str, place: str) -> str:
     """A text with the fields that its model may have."""
     allowed = fields(model) | ({"width", "height"} if "size" in fields(model) else set())
     try:
@@ -57,10 +60,10 @@ def checked(text, model, place):
     if not is_right:
         names = ", ".join(f"{{{name}}}" for name in sorted(allowed)) or "none"
         raise Fault(f"{place} must be a text with no fields but {names}", REFUSED)
-    return text
+    return str(text)
 
 
-def escaped(texts):
+def escaped(texts: Any) -> Any:
     if isinstance(texts, dict):
         return {name: escaped(text) for name, text in texts.items()}
     return [*map(escaped, texts)] if isinstance(texts, list) else html.escape(texts)
