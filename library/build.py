@@ -4,7 +4,7 @@
 usage: library/build.py [--to FOLDER] [--kit KIT] [--jobs N] [so] [wasm]
 
 so      libpuzzles.so.0, the link libpuzzles.so to it, and puzzles.h; needs cc
-wasm    puzzles.wasm and puzzles.js; needs wasm-ld and wasm-opt (Debian's lld and binaryen)
+wasm    puzzles.wasm and puzzles.js, and both in the folder npm, for npm; needs wasm-ld and wasm-opt (Debian's lld and binaryen)
 
 Without a word it makes both. FOLDER is library/out unless it is said, and a file gets its name there once it is whole. KIT is the
 folder of Rattle's kit, and else the one that `rt doc` names.
@@ -24,6 +24,7 @@ import tempfile
 
 from kit import Failed, Kit, run
 from module import build_module
+from npm_folder import fill
 
 HERE = pathlib.Path(__file__).resolve().parent
 CRATE = HERE.parent / "crates" / "puzzles_c"
@@ -75,6 +76,8 @@ def build(asked, room):
         hand_over(file, asked.to)
     if "so" in asked.parts:
         link_to(made[0], asked.to)
+    if "wasm" in asked.parts:
+        fill(asked.to / "puzzles.wasm", asked.to / "npm")
 
 
 def main():
