@@ -151,11 +151,17 @@ def tree(one):
     yield File("share/icons/hicolor/scalable/apps/puzzles.svg", icon)
 
 
-def debian(one, files):
-    """The Debian package; Python finds `import puzzles` by a link."""
+def about(one):
+    """Who packs it, and Debian's list of changes."""
     when = time.strftime("%a, %d %b %Y %H:%M:%S +0000", time.gmtime(one.seconds))
     who = f"{os.environ.get('DEBFULLNAME', 'Nobody')} <{os.environ.get('DEBEMAIL', 'nobody@example.invalid')}>"
-    more = [File(f"{DOC}/changelog.gz", squeezed(texts.DEBIAN_CHANGELOG.format(version=one.debian, who=who, when=when).encode())),
+    return who, texts.DEBIAN_CHANGELOG.format(version=one.debian, who=who, when=when)
+
+
+def debian(one, files):
+    """The Debian package; Python finds `import puzzles` by a link."""
+    who, changes = about(one)
+    more = [File(f"{DOC}/changelog.gz", squeezed(changes.encode())),
             File(f"{DOC}/copyright", texts.COPYRIGHT.encode()),
             File("share/applications/puzzles.desktop", texts.DESKTOP.encode()),
             File("share/lintian/overrides/puzzles", texts.OVERRIDES.encode()),
@@ -189,6 +195,16 @@ def python(one):
     return f"puzzles-{one.python}-{tag}.whl", wheel(files, info, one.seconds)
 
 
+def write(folder, packages):
+    """Puts packages into a folder, each whole or not at all, and prints their digests."""
+    folder.mkdir(parents=True, exist_ok=True)
+    for name, content in packages:
+        part = folder / f"{name}.part"
+        part.write_bytes(content)
+        part.replace(folder / name)
+        print(f"{hashlib.sha256(content).hexdigest()}  {name}", flush=True)
+
+
 def main():
     form = argparse.ArgumentParser(description=__doc__, formatter_class=argparse.RawDescriptionHelpFormatter)
     form.add_argument("program", type=pathlib.Path)
@@ -196,25 +212,26 @@ def main():
     asked = form.parse_args()
     one = release(asked.program)
     files = list(tree(one))
-    asked.folder.mkdir(parents=True, exist_ok=True)
-    for name, content in [debian(one, files), tarball(one, files), python(one)]:
-        part = asked.folder / f"{name}.part"
-        part.write_bytes(content)
-        part.replace(asked.folder / name)
-        print(f"{hashlib.sha256(content).hexdigest()}  {name}", flush=True)
+    write(asked.folder, [debian(one, files), tarball(one, files), python(one)])
     print(f"{hashlib.sha256(one.program).hexdigest()}  puzzles, the program")
     needs = [*one.elf.libraries, *(["glibc {}.{}".format(*one.elf.glibc)] if one.elf.glibc else [])]
     print(f"needs {', '.join(needs) or 'no library'}")
     return 0
 
 
-if __name__ == "__main__":
+def ended(work):
+    """Ends a script with its status, or with one sentence and a status."""
+    name = pathlib.Path(sys.argv[0]).name
     try:
-        sys.exit(main())
+        sys.exit(work())
     except Wrong as fault:
-        print(f"package.py: {fault}", file=sys.stderr)
+        print(f"{name}: {fault}", file=sys.stderr)
         sys.exit(7)
     except OSError as fault:
-        print(": ".join(filter(None, ["package.py", fault.strerror, fault.filename and str(fault.filename)])), file=sys.stderr)
+        print(": ".join(filter(None, [name, fault.strerror, fault.filename and str(fault.filename)])), file=sys.stderr)
         os.dup2(os.open(os.devnull, os.O_WRONLY), 1)  # what is left for a pipe that nobody reads
         sys.exit(6)
+
+
+if __name__ == "__main__":
+    ended(main)
