@@ -3,8 +3,8 @@
 
 usage: library/build.py [--to FOLDER] [--kit KIT] [--jobs N] [so] [wasm]
 
-so      libpuzzles.so.0, the link libpuzzles.so to it, and puzzles.h; needs cc
-wasm    puzzles.wasm and puzzles.js; needs wasm-ld and wasm-opt (Debian's lld and binaryen)
+so      libpuzzles.so.0, the link libpuzzles.so to it, libpuzzles.a and puzzles.h; needs cc, ar and objcopy
+wasm    puzzles.wasm and puzzles.js, and both in the folder npm, for npm; needs wasm-ld and wasm-opt (Debian's lld and binaryen)
 
 Without a word it makes both. FOLDER is library/out unless it is said, and a file gets its name there once it is whole. KIT is the
 folder of Rattle's kit, and else the one that `rt doc` names.
@@ -24,10 +24,11 @@ import tempfile
 
 from kit import Failed, Kit, run
 from module import build_module
+from npm_folder import fill
 
 HERE = pathlib.Path(__file__).resolve().parent
 CRATE = HERE.parent / "crates" / "puzzles_c"
-TOOLS = {"so": ["cc"], "wasm": ["wasm-ld", "wasm-opt"]}
+TOOLS = {"so": ["cc", "ar", "objcopy"], "wasm": ["wasm-ld", "wasm-opt"]}
 EXPORTS = "PUZZLES_{}.{} {{ global: puzzles_*; local: *; }};\n"
 LINK = "libpuzzles.so"
 
@@ -45,7 +46,17 @@ def build_shared(kit, archive, room):
     exports.write_text(EXPORTS.format(first, second))
     run(["cc", "-shared", "-o", made, f"-Wl,-soname,{made.name}", "-Wl,--whole-archive", archive, "-Wl,--no-whole-archive",
          kit.heap, "-Wl,--gc-sections", "-Wl,-z,defs", "-Wl,-z,now", "-Wl,-z,noexecstack", f"-Wl,--version-script={exports}"])
-    return [made, HERE / "puzzles.h"]
+    return [made, build_static(kit, archive, room), HERE / "puzzles.h"]
+
+
+def build_static(kit, archive, room):
+    """The same in an archive that needs nothing but the C library, and whose one object has no other names."""
+    whole, made = room / "puzzles.o", room / "libpuzzles.a"
+    run(["cc", "-r", "-nostdlib", "-o", whole, "-Wl,--whole-archive", archive, "-Wl,--no-whole-archive", kit.heap])
+    run(["objcopy", "--wildcard", "--keep-global-symbol=puzzles_*", whole])
+    made.unlink(missing_ok=True)
+    run(["ar", "rcsD", made, whole])
+    return made
 
 
 def hand_over(file, folder):
@@ -75,6 +86,8 @@ def build(asked, room):
         hand_over(file, asked.to)
     if "so" in asked.parts:
         link_to(made[0], asked.to)
+    if "wasm" in asked.parts:
+        fill(asked.to / "puzzles.wasm", asked.to / "npm")
 
 
 def main():

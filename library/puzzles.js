@@ -3,6 +3,7 @@
 const VERSION = 1; // of the module that goes with this file, as puzzles_version tells it
 const GAMES = ["solo", "pattern", "lightup", "tents"], BLACK = { pattern: 50, lightup: 20 };
 const NO_MEMORY = 5, TOO_SMALL = 7, REFUSED = { status: 2, text: "refused: words\n" };
+const BUDGET = 100000; // the program's own
 const FIRST_ROOM = 80057; // the most bytes of an answer, but for many lines and for a trace
 const KEPT_MEMORY = 2 ** 26;
 const encoder = new TextEncoder(), decoder = new TextDecoder();
@@ -24,11 +25,20 @@ function text(word) {
   return bytes;
 }
 
-async function bytesOf(source) {
+// Options with no other names than these.
+function known(options, ...names) {
+  const given = options ?? {};
+  if (typeof given !== "object" || Object.keys(given).some((name) => !names.includes(name))) throw new Refused();
+  return given;
+}
+
+// Of bytes, or of a response, as it comes where the browser takes it so.
+async function compiled(source) {
   const given = await source;
-  if (typeof Response !== "function" || !(given instanceof Response)) return given;
+  if (typeof Response !== "function" || !(given instanceof Response)) return WebAssembly.compile(given);
   if (!given.ok) throw new Error(`${given.url} has status ${given.status}`);
-  return given.arrayBuffer();
+  const isStreamed = WebAssembly.compileStreaming && given.headers.get("Content-Type") === "application/wasm";
+  return isStreamed ? WebAssembly.compileStreaming(given) : WebAssembly.compile(await given.arrayBuffer());
 }
 
 export class Puzzles {
@@ -40,7 +50,7 @@ export class Puzzles {
   static async load(source) {
     if (typeof WebAssembly !== "object") throw new Error("no WebAssembly here");
     try {
-      return new Puzzles(await WebAssembly.compile(await bytesOf(source)));
+      return new Puzzles(await compiled(source));
     } catch (fault) {
       throw new Error(`puzzles.wasm can't be loaded: ${fault.message}`, { cause: fault });
     }
@@ -53,28 +63,38 @@ export class Puzzles {
     if (version !== VERSION) throw new Error(`a module of version ${version}, and not ${VERSION}`);
   }
 
-  solve(game, id, { budget = 100000 } = {}) {
-    return this.#answer("solve", game, () => [text(id), number(budget, 64)]);
+  solve(game, id, options) {
+    return this.#answer("solve", game, () => {
+      const { budget = BUDGET } = known(options, "budget");
+      return [text(id), number(budget, 64)];
+    });
   }
 
   // The answers to the IDs that are lines of a text.
-  solveEach(game, lines, { budget = 100000 } = {}) {
-    return this.#answer("solve_each", game, () => [text(lines), number(budget, 64)]);
+  solveEach(game, lines, options) {
+    return this.#answer("solve_each", game, () => {
+      const { budget = BUDGET } = known(options, "budget");
+      return [text(lines), number(budget, 64)];
+    });
   }
 
   check(game, id, grid) {
     return this.#answer("check", game, () => [text(id), text(grid)]);
   }
 
-  grade(game, id, { budget = 100000, trace = false } = {}) {
-    return this.#answer("grade", game, () => [text(id), number(budget, 64), Number(Boolean(trace))]);
+  grade(game, id, options) {
+    return this.#answer("grade", game, () => {
+      const { budget = BUDGET, trace = false } = known(options, "budget", "trace");
+      return [text(id), number(budget, 64), Number(Boolean(trace))];
+    });
   }
 
-  generate(game, size, seed, { budget = 100000, tries = 1000, black = undefined } = {}) {
-    if (black !== undefined && !(game in BLACK)) return REFUSED;
-    const share = black ?? BLACK[game] ?? 0;
-    return this.#answer("generate", game,
-      () => [text(size), number(seed, 64), number(budget, 64), number(tries, 32), number(share, 8)]);
+  generate(game, size, seed, options) {
+    return this.#answer("generate", game, () => {
+      const { budget = BUDGET, tries = 1000, black } = known(options, "budget", "tries", "black");
+      if (black !== undefined && !(game in BLACK)) throw new Refused();
+      return [text(size), number(seed, 64), number(budget, 64), number(tries, 32), number(black ?? BLACK[game] ?? 0, 8)];
+    });
   }
 
   #begin() {

@@ -28,10 +28,16 @@ import package_texts as texts
 TOP = pathlib.Path(__file__).resolve().parent.parent
 MACHINES = {62: ("amd64", "x86_64"), 183: ("arm64", "aarch64")}  # as Debian and as Linux name them
 GIT_SECONDS = 60
+UNRELEASED = "not released"  # in a head of CHANGELOG.md
 SOURCES = "python/src/puzzles/"
 COMMANDS = ("book", "collect", "convert", "drawing", "ids", "page", "page-static")
 COMPLETIONS = {"puzzles.bash": "bash-completion/completions/puzzles", "_puzzles": "zsh/vendor-completions/_puzzles",
                "puzzles.fish": "fish/vendor_completions.d/puzzles.fish"}
+# Documents for who has no sources. Others tell of these.
+DOCUMENTS = ("README.md", "CHANGELOG.md", *(f"docs/{name}" for name in (
+    "USE.md", "FORMATS.md", "RULES.md", "BOOKS.md", "COLLECTIONS.md", "page.png", "page-phone.png", "book-puzzles.png",
+    "book-rules.png", "book-solutions.png")))
+OWN_MANUALS = ("book", "collect")
 SHARE, DOC, MANUAL = "share/puzzles/puzzles", "share/doc/puzzles", "share/man/man1"
 
 
@@ -49,16 +55,17 @@ class Release:
     seconds: int  # the time of all files
 
     @property
-    def day(self):
-        return time.strftime("%Y%m%d", time.gmtime(self.seconds))
+    def moment(self):
+        """It rises from commit to commit, so that a later package is never taken for an older one."""
+        return time.strftime("%Y%m%d%H%M%S", time.gmtime(self.seconds))
 
     @property
     def debian(self):
-        return f"{self.number}~{self.day}.{self.commit}" if self.commit else self.number
+        return f"{self.number}~{self.moment}.{self.commit}" if self.commit else self.number
 
     @property
     def python(self):
-        return f"{self.number}.dev{self.day}+{self.commit}" if self.commit else self.number
+        return f"{self.number}.dev{self.moment}+{self.commit}" if self.commit else self.number
 
     @property
     def machines(self):
@@ -81,9 +88,14 @@ def release(path):
         raise Wrong(f"{path}: {fault}") from None
     if elf.machine not in MACHINES:
         raise Wrong(f"{path} is for another machine than {', '.join(name for _, name in MACHINES.values())}")
-    number = re.search(r"^## (\d+\.\d+\.\d+)\b", (TOP / "CHANGELOG.md").read_text(), re.M)[1]
+    number, date, *changes = re.search(r"^## (\d+\.\d+\.\d+), (.+)\n([^#]*)", (TOP / "CHANGELOG.md").read_text(), re.M).groups()
     commit, seconds = git("log", "-1", "--format=%h %ct", "--abbrev=8").split()
-    is_tagged = f"v{number}" in git("tag", "--points-at", "HEAD").split()
+    tag, digest = f"v{number}", hashlib.sha256(program).hexdigest()
+    is_tagged = tag in git("tag", "--points-at", "HEAD").split()
+    if not is_tagged and git("tag", "--list", tag):
+        raise Wrong(f"{number} is released, as the tag {tag} says: CHANGELOG.md wants a head for the next version")
+    if is_tagged and (date == UNRELEASED or digest not in changes[0]):
+        raise Wrong(f"CHANGELOG.md wants the day of {number} in its head, and below it the digest of its program: {digest}")
     epoch = os.environ.get("SOURCE_DATE_EPOCH", seconds)
     if not epoch.isdecimal():
         raise Wrong(f"SOURCE_DATE_EPOCH is no number of seconds: {epoch}")
@@ -105,30 +117,51 @@ def package():
         yield file
 
 
+def documents():
+    """Documents and examples. Links in them to what isn't packed are left as words."""
+    files = [file for file in [*tracked("README.md"), *tracked("CHANGELOG.md"), *tracked("docs")] if file.name in DOCUMENTS]
+    files += tracked("examples")
+    names = {file.name for file in files}
+    names |= {folder for name in names for folder in map(str, pathlib.PurePosixPath(name).parents)}
+    for file in files:
+        text = texts.linked(file.content.decode(), file.name, names).encode() if file.name.endswith(".md") else file.content
+        yield dataclasses.replace(file, name=f"{DOC}/{file.name}", content=text)
+
+
 def tree(one):
     """What is installed below /usr or ~/.local."""
     inside = list(package())
     yield File("bin/puzzles", one.program, True)
-    yield File(f"{MANUAL}/puzzles.1.gz", squeezed((TOP / "docs/puzzles.1").read_bytes()))
+    for name in ("puzzles", *(f"puzzles-{name}" for name in OWN_MANUALS)):
+        yield File(f"{MANUAL}/{name}.1.gz", squeezed((TOP / f"docs/{name}.1").read_bytes()))
     for name in COMMANDS:
         yield File(f"bin/puzzles-{name}", texts.LAUNCHER.format(name=name).encode(), True)
-        yield File(f"{MANUAL}/puzzles-{name}.1.gz", target="puzzles.1.gz")
+        if name not in OWN_MANUALS:
+            yield File(f"{MANUAL}/puzzles-{name}.1.gz", target="puzzles.1.gz")
     for name, place in COMPLETIONS.items():
         yield File(f"share/{place}", (TOP / "packaging/completions" / name).read_bytes())
+        if name != "_puzzles":  # bash and fish look for a file of the command's name
+            for tool in COMMANDS:
+                folder, file = place.rsplit("/", 1)
+                yield File(f"share/{folder}/{file.replace('puzzles', f'puzzles-{tool}', 1)}", target=file)
     for file in inside:
         yield dataclasses.replace(file, name=f"{SHARE}/{file.name}")
-    for file in [*tracked("docs"), *tracked("examples"), *tracked("README.md"), *tracked("CHANGELOG.md")]:
-        if not file.name.endswith(".1"):
-            yield dataclasses.replace(file, name=f"{DOC}/{file.name}")
+    yield from documents()
     icon = next(file.content for file in inside if file.name == "page/web/icon.svg")
     yield File("share/icons/hicolor/scalable/apps/puzzles.svg", icon)
 
 
-def debian(one, files):
-    """The Debian package; Python finds `import puzzles` by a link."""
+def about(one):
+    """Who packs it, and Debian's list of changes."""
     when = time.strftime("%a, %d %b %Y %H:%M:%S +0000", time.gmtime(one.seconds))
     who = f"{os.environ.get('DEBFULLNAME', 'Nobody')} <{os.environ.get('DEBEMAIL', 'nobody@example.invalid')}>"
-    more = [File(f"{DOC}/changelog.gz", squeezed(texts.DEBIAN_CHANGELOG.format(version=one.debian, who=who, when=when).encode())),
+    return who, texts.DEBIAN_CHANGELOG.format(version=one.debian, who=who, when=when)
+
+
+def debian(one, files):
+    """The Debian package; Python finds `import puzzles` by a link."""
+    who, changes = about(one)
+    more = [File(f"{DOC}/changelog.gz", squeezed(changes.encode())),
             File(f"{DOC}/copyright", texts.COPYRIGHT.encode()),
             File("share/applications/puzzles.desktop", texts.DESKTOP.encode()),
             File("share/lintian/overrides/puzzles", texts.OVERRIDES.encode()),
@@ -139,7 +172,8 @@ def debian(one, files):
     depends = f"Depends: {', '.join(needs)}\n" if needs else ""
     size = sum(len(file.content) for file in files) // 1024 + 1
     control = texts.CONTROL.format(version=one.debian, machine=one.machines[0], who=who, size=size, depends=depends)
-    return f"puzzles_{one.debian}_{one.machines[0]}.deb", deb(control, files, one.seconds)
+    return f"puzzles_{one.debian}_{one.machines[0]}.deb", deb(
+        control, files, one.seconds, {"postinst": texts.POSTINST, "prerm": texts.PRERM})
 
 
 def tarball(one, files):
@@ -161,6 +195,16 @@ def python(one):
     return f"puzzles-{one.python}-{tag}.whl", wheel(files, info, one.seconds)
 
 
+def write(folder, packages):
+    """Puts packages into a folder, each whole or not at all, and prints their digests."""
+    folder.mkdir(parents=True, exist_ok=True)
+    for name, content in packages:
+        part = folder / f"{name}.part"
+        part.write_bytes(content)
+        part.replace(folder / name)
+        print(f"{hashlib.sha256(content).hexdigest()}  {name}", flush=True)
+
+
 def main():
     form = argparse.ArgumentParser(description=__doc__, formatter_class=argparse.RawDescriptionHelpFormatter)
     form.add_argument("program", type=pathlib.Path)
@@ -168,24 +212,26 @@ def main():
     asked = form.parse_args()
     one = release(asked.program)
     files = list(tree(one))
-    asked.folder.mkdir(parents=True, exist_ok=True)
-    for name, content in [debian(one, files), tarball(one, files), python(one)]:
-        part = asked.folder / f"{name}.part"
-        part.write_bytes(content)
-        part.replace(asked.folder / name)
-        print(f"{hashlib.sha256(content).hexdigest()}  {name}")
+    write(asked.folder, [debian(one, files), tarball(one, files), python(one)])
     print(f"{hashlib.sha256(one.program).hexdigest()}  puzzles, the program")
     needs = [*one.elf.libraries, *(["glibc {}.{}".format(*one.elf.glibc)] if one.elf.glibc else [])]
     print(f"needs {', '.join(needs) or 'no library'}")
     return 0
 
 
-if __name__ == "__main__":
+def ended(work):
+    """Ends a script with its status, or with one sentence and a status."""
+    name = pathlib.Path(sys.argv[0]).name
     try:
-        sys.exit(main())
+        sys.exit(work())
     except Wrong as fault:
-        print(f"package.py: {fault}", file=sys.stderr)
+        print(f"{name}: {fault}", file=sys.stderr)
         sys.exit(7)
     except OSError as fault:
-        print(f"package.py: {fault.strerror}: {fault.filename}", file=sys.stderr)
+        print(": ".join(filter(None, [name, fault.strerror, fault.filename and str(fault.filename)])), file=sys.stderr)
+        os.dup2(os.open(os.devnull, os.O_WRONLY), 1)  # what is left for a pipe that nobody reads
         sys.exit(6)
+
+
+if __name__ == "__main__":
+    ended(main)

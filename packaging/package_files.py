@@ -52,10 +52,11 @@ def put(archive, name, seconds, *, kind, mode, content=b"", target=""):
     archive.addfile(one, io.BytesIO(content))
 
 
-def deb(control, files, seconds):
-    """A Debian package: its text of control, and what it installs."""
+def deb(control, files, seconds, scripts):
+    """A Debian package: its text of control, what it installs, and by their names the scripts and lists for dpkg."""
     sums = "".join(f"{hashlib.md5(file.content).hexdigest()}  {file.name}\n" for file in sorted(files) if not file.target)
-    about = [File("control", control.encode()), File("md5sums", sums.encode())]
+    about = [File("control", control.encode()), File("md5sums", sums.encode()),
+             *(File(name, text.encode(), text.startswith("#!")) for name, text in scripts.items())]
     members = [("debian-binary", b"2.0\n"), ("control.tar.xz", lzma.compress(tar(about, seconds, "./"), preset=9)),
                ("data.tar.xz", lzma.compress(tar(files, seconds, "./"), preset=9))]
     out = b"!<arch>\n"

@@ -1,4 +1,5 @@
 """The texts of the packages that package.py makes."""
+import posixpath
 import re
 
 LAUNCHER = """\
@@ -21,6 +22,17 @@ def entry_points(top):
     return "[console_scripts]\n" + re.sub(r' = "(.*)"', r" = \1", table) + "\n"
 
 
+def linked(text, name, names):
+    """The text of a document of this name. A link to a file that isn't among these names is left as its words."""
+    folder = posixpath.dirname(name)
+
+    def left(link):
+        target = link[3].partition("#")[0]
+        is_there = not target or ":" in target or posixpath.normpath(posixpath.join(folder, target)) in names
+        return link[0] if is_there else link[2]
+    return re.sub(r"(!?)\[((?:[^\[\]]|\[[^\[\]]*\])*)\]\(([^()\s]+)\)", left, text)
+
+
 DESKTOP = """\
 [Desktop Entry]
 Type=Application
@@ -30,6 +42,7 @@ Exec=puzzles-page --open
 Icon=puzzles
 Terminal=true
 Categories=Game;LogicGame;
+Keywords=sudoku;nonogram;picross;akari;tents;logic;
 """
 COPYRIGHT = """\
 Format: https://www.debian.org/doc/packaging-manuals/copyright-format/1.0/
@@ -49,6 +62,20 @@ puzzles ({version}) unstable; urgency=medium
   * Built from the repository: CHANGELOG.md has its changes.
 
  -- {who}  {when}
+"""
+POSTINST = """\
+#!/bin/sh
+# Compiles the tools once, where Debian's Python is there; else each start of one would compile them anew.
+set -e
+if [ "$1" = configure ] && [ -z "$DPKG_ROOT" ] && command -v py3compile > /dev/null; then
+    py3compile -p puzzles /usr/share/puzzles
+fi
+"""
+PRERM = """\
+#!/bin/sh
+# What Python compiled, here or for a tool that root ran, goes with the package.
+set -e
+find "$DPKG_ROOT/usr/share/puzzles" -depth -type d -name __pycache__ -exec rm -r {} +
 """
 SUMMARY = "solve, check, grade and generate logic puzzles"
 CONTROL = f"""\

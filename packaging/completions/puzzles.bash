@@ -1,4 +1,4 @@
-# Completes the words of `puzzles` in bash.
+# Completes the words of `puzzles` and of its tools in bash.
 
 _puzzles() {
     local word=${COMP_WORDS[COMP_CWORD]} at plain=() seen=' ' options='' is_value=''
@@ -39,3 +39,16 @@ _puzzles() {
     mapfile -t COMPREPLY < <(compgen -W "${offered[*]}" -- "$word")
 }
 complete -F _puzzles puzzles
+
+# A tool tells its commands and options by --help. Files come where no option does.
+_puzzles_tool() {
+    local word=${COMP_WORDS[COMP_CWORD]} told
+    told=$("$1" --help 2> /dev/null)
+    if [[ $word == -* ]]; then
+        mapfile -t COMPREPLY < <(compgen -W "$(grep -o -- '--[a-z][a-z-]*' <<< "$told" | sort -u)" -- "$word")
+    else
+        mapfile -t COMPREPLY < <(compgen -f -- "$word")
+    fi
+}
+complete -o filenames -F _puzzles_tool puzzles-book puzzles-collect puzzles-convert puzzles-drawing puzzles-ids puzzles-page \
+    puzzles-page-static

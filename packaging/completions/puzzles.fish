@@ -1,4 +1,4 @@
-# Completes the words of `puzzles` in fish.
+# Completes the words of `puzzles` and of its tools in fish.
 
 function __puzzles_takes --description 'Whether the command is among these'
     set -l words (commandline -opc)
@@ -28,3 +28,13 @@ complete -c puzzles -n '__puzzles_option trace grade' -l trace -d 'add the steps
 complete -c puzzles -n '__puzzles_option seed generate' -l seed -x -d 'the seed of the puzzle'
 complete -c puzzles -n '__puzzles_option tries generate' -l tries -x -d 'solved grids that are tried'
 complete -c puzzles -n '__puzzles_option black generate; and __puzzles_has pattern lightup' -l black -x -d 'black cells, per cent'
+
+# A tool tells its options by --help. Files come where no option does.
+function __puzzles_told --description 'The options of a tool'
+    set -l words (commandline -opc)
+    $words[1] --help 2>/dev/null | string match -ar -- '--[a-z][a-z-]*' | sort -u
+end
+
+for tool in book collect convert drawing ids page page-static
+    complete -c puzzles-$tool -n 'string match -q -- "-*" (commandline -ct)' -f -a '(__puzzles_told)'
+end

@@ -184,7 +184,7 @@ def test_faults(bench):
         others = {"tents:3x3:any:1": "4x4 at least", "solo:9x9:any:1": "the size 9x9 is refused"}
         bench.told([BOOK, book, word], 2, others.get(word, "isn't GAME:SIZE:LEVEL:COUNT"))
     bench.told([BOOK, book, "tents:8x8:houses:1"], 2, "houses is no level of tents")
-    bench.told([BOOK, "--paper", "A3", book, one], 2, "invalid choice")
+    bench.told([BOOK, "--paper", "A3", book, one], 2, "A3 is none of A4")
     for words in (["--seed", "-1"], ["--seconds", "0"], ["--seconds", "nan"], ["--seconds", "inf"]):
         bench.told([BOOK, *words, book, one], 2, "a seed is")
     bench.told([BOOK, bench.folder / "book.txt", one], 2, "ends in .pdf")

@@ -70,11 +70,11 @@ def test_by_hand(bench):
               ("lightup", "2x2:Bc", "2x2", "several", None, None, 0, 3, f"{path}:2"),
               ("lightup", "3x3:aBBa1aBb", "3x3", "one", "search", 4, 1, 2, f"{path}:1")]
     assert done.returncode == 2 and rows(table) == wanted, f"status {done.returncode}: {done.stderr}{rows(table)}"
-    told = [f"{path}:{line}: no ID of lightup: {fault}" for line, fault in ((3, "too many"), (4, "no colon"), (5, "no colon"))]
+    told = [f"{path}:{line}: no ID of lightup: {fault}" for line, fault in ((3, "too many"), (5, "no colon"))]
     assert done.stderr.splitlines() == told, done.stderr
     with sqlite3.connect(table) as base:
         found = base.execute("SELECT line, fault FROM refusal ORDER BY 1").fetchall()
-    assert found == [(3, "too many"), (4, "no colon"), (5, "no colon")], str(found)
+    assert found == [(3, "too many"), (5, "no colon")], str(found)
     for game, size in (("solo", "2x3"), ("pattern", "8x8"), ("tents", "8x8")):
         texts = [bench.generate(game, size, seed)[0] for seed in range(1, 31)]
         path.write_text("".join(f"{text}\n" for text in texts))
@@ -83,6 +83,19 @@ def test_by_hand(bench):
             if row[0] == game:
                 grade = bench.grade(game, row[1])
                 assert (row[4] if row[4] != "search" else f"search {row[5]}") == grade, f"{row}: {grade}"
+
+
+def test_passed_over(bench):
+    """empty lines, remarks, a mark at the beginning and spaces around an ID are no refusals"""
+    path, table, texts = bench.folder / "remarks.txt", bench.folder / "remarks.db", solos(bench, 3)
+    path.write_text(f"\ufeff# from somewhere\n\n  {texts[0]} \t\r\n\t\n{texts[1]}\n   # and one more\n{texts[2]}")
+    bench.good([COLLECT, "add", "--later", table, "solo", path])
+    assert sorted(row[1] for row in rows(table)) == sorted(bench.written("solo", [text.encode() for text in texts]))
+    with sqlite3.connect(table) as base:
+        assert base.execute("SELECT count(*) FROM refusal").fetchone() == (0,)
+        assert base.execute("SELECT lines FROM source").fetchone() == (7,)
+    bench.told([COLLECT, "add", "--later", "--source", "again", table, "solo", "/dev/stdin"], 2, "no ID of solo",
+               given=f"# a remark\n{texts[0]} behind\n")
 
 
 def test_again(bench):

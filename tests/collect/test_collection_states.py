@@ -24,9 +24,10 @@ from puzzles._work import Fault  # noqa: E402
 from puzzles.collect import __main__ as collect  # noqa: E402
 from support.bench import SECONDS, SOURCES  # noqa: E402
 
-# Lines with the one ID that each is written as, and nothing for those that are refused; and what `grade` says of the IDs.
+# Lines with the one ID that each is written as, None for those that are refused, and "" for those that are passed over; and what
+# `grade` says of the IDs.
 LINES = {"3x3:aBBa1aBb": "3x3:aBBa1aBb", "2x2:Bc": "2x2:Bc", "2:Bc": "2x2:Bc", "2x2:Bab": "2x2:Bc", "2x2:1c": "2x2:1c",
-         "2x2:2c": "2x2:2c", "2x2:Bac": None, "nonsense": None, "": None}
+         "2x2:2c": "2x2:2c", "2x2:Bac": None, "nonsense": None, "": "", "# 2x2:2c": ""}
 GRADES = {"3x3:aBBa1aBb": ("one", "search"), "2x2:Bc": ("several", None), "2x2:1c": ("none", None), "2x2:2c": ("one", "local")}
 NAMES = st.sampled_from(["a", "b", "c"])
 MORE = st.lists(st.sampled_from(sorted(LINES)), min_size=1, max_size=8)
@@ -113,14 +114,14 @@ class Machine(RuleBasedStateMachine):
         assert sorted(told.split()) == sorted(self.met() - self.graded)
 
     def met(self):
-        return {LINES[line] for lines in self.taken.values() for line in lines} - {None}
+        return {LINES[line] for lines in self.taken.values() for line in lines} - {None, ""}
 
     @invariant()
     def has_what_was_taken(self):
         if not self.table.exists():
             return
         times = collections.Counter(LINES[line] for lines in self.taken.values() for line in lines)
-        refused = times.pop(None, 0)
+        refused, _ = times.pop(None, 0), times.pop("", 0)
         with contextlib.closing(sqlite3.connect(self.table)) as base:
             rows = base.execute("SELECT id, times, verdict, grade, source FROM puzzle").fetchall()
             faults, = base.execute("SELECT count(*) FROM refusal").fetchone()

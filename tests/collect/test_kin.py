@@ -8,6 +8,8 @@ import random
 import sqlite3
 import time
 
+from puzzles.collect import __main__ as collecting
+from puzzles.collect.forms import form
 from support.bench import SECONDS, without_progress
 from collect.test_collect import COLLECT, add, rows, solos
 
@@ -125,6 +127,23 @@ def turned(grid, columns, lines):
                 grid, columns, lines = [row[::-1] for row in grid], columns[::-1], back(lines)
                 yield grid, columns, lines
         grid, columns, lines = [*map(list, zip(*grid))], lines, columns
+
+
+def test_forms_without_shared_memory(bench, monkeypatch, capsys):
+    """where processes can't share memory, forms are found all the same, and it is said"""
+    path, table = bench.folder / "ids.txt", bench.folder / "one.db"
+    path.write_text("".join(f"{text}\n" for text in solos(bench, 6)))
+    add(bench, table, "solo", path, "--later")
+
+    def none(*_):
+        raise PermissionError(13, "Permission denied")
+    monkeypatch.setattr(collecting.multiprocessing, "Pool", none)
+    monkeypatch.setattr(collecting.sys, "argv", ["collect", "forms", str(table), "solo"])
+    assert not collecting.main()
+    assert "one core finds the forms, for there is no shared memory" in capsys.readouterr().err
+    with sqlite3.connect(table) as base:
+        found = dict(base.execute("SELECT id, form FROM puzzle"))
+    assert len(found) == 6 and all(form(game="solo", text=text) == one for text, one in found.items())
 
 
 def test_lists(bench):

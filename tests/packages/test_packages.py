@@ -149,7 +149,7 @@ def test_debian(packages):
     folder = packages.debian() / "usr"
     path = tried(packages, folder)
     serves(packages, folder, path)
-    for name in ("puzzles", "puzzles-book"):
+    for name in ("puzzles", "puzzles-book", "puzzles-collect", "puzzles-ids"):
         found = packages.bench.good(["man", "-M", folder / "share/man", "-w", name]).strip()
         assert found.startswith(str(folder)), f"man finds {found}"
     text = packages.bench.good(["man", "-M", folder / "share/man", "puzzles"], MANWIDTH="100", MAN_KEEP_FORMATTING="")
@@ -193,6 +193,78 @@ def test_wheel(packages):
     assert said == [str(folder / "bin/puzzles"), said[1], "2x2:p"] and said[1].startswith(str(folder)), str(said)
     packages.bench.good([python, "-m", "pip", "uninstall", "-q", "-y", "puzzles"])
     assert not (folder / "bin/puzzles").exists(), "pip leaves the program there"
+
+
+def test_removed(packages):
+    """after the tools ran as root, and left what Python compiled, the package goes without a trace"""
+    if os.geteuid() != 0:
+        pytest.skip("dpkg removes for root alone")
+    folder, bench = packages.folder / "removed", packages.bench
+    for name in ("var/lib/dpkg/updates", "var/lib/dpkg/info"):
+        (folder / name).mkdir(parents=True)
+    (folder / "var/lib/dpkg/status").touch()
+    words = ["dpkg", f"--root={folder}", "--force-depends", "--force-script-chrootless"]
+    bench.good([*words, "-i", packages.one("*.deb")])
+    bench.good([folder / "usr/bin/puzzles-book", "--help"], PYTHONDONTWRITEBYTECODE="")
+    assert list((folder / "usr/share/puzzles").rglob("*.pyc")), "nothing was compiled"
+    done = bench.run([*words, "-r", "puzzles"])
+    assert done.returncode == 0 and "not empty" not in done.stderr, done.stderr
+    left = [path for path in folder.rglob("*") if "var/lib/dpkg" not in str(path) and not path.is_dir()]
+    assert not left and not (folder / "usr/share/puzzles").exists(), f"left: {left[:5]}"
+
+
+def test_documents(packages):
+    """each link of a document that is packed leads somewhere, and examples are beside it"""
+    folder = packages.debian() / "usr/share/doc/puzzles"
+    found = 0
+    for path in folder.rglob("*.md"):
+        for target in re.findall(r"\]\(([^()\s]+)\)", re.sub(r"```.*?```", "", path.read_text(), flags=re.S)):
+            name, _, anchor = target.partition("#")
+            if "://" not in target:
+                there = path.parent / name if name else path
+                assert there.exists(), f"{path.name}: {target}"
+                found += 1
+    assert found > 50 and (folder / "examples").is_dir() and not (folder / "docs/PROOF.md").exists(), f"{found} links"
+
+
+def test_keywords(packages):
+    """the menu's entry is found by what players call the games"""
+    entry = (packages.debian() / "usr/share/applications/puzzles.desktop").read_text()
+    assert {"sudoku", "nonogram", "akari"} <= set(re.search("^Keywords=(.*)$", entry, re.M)[1].split(";")), entry
+
+
+def test_versions(packages):
+    """of two commits of a day the later package is the newer one; a release wants its day and digest, and then a new head"""
+    top, bench, out = packages.folder / "versions", packages.bench, packages.folder / "of versions"
+    bench.good(["git", "clone", "-q", "--shared", TOP, top])
+    script, changes, git = top / "packaging/package.py", top / "CHANGELOG.md", ["git", "-C", top, "-c", "user.name=a", "-c", "user.email=a@b"]
+    made = []
+    for seconds in (1_800_000_000, 1_800_000_001, 1_800_007_000):
+        when = {"GIT_AUTHOR_DATE": f"{seconds} +0000", "GIT_COMMITTER_DATE": f"{seconds} +0000"}
+        bench.good([*git, "commit", "-q", "--allow-empty", "-m", "One"], **when)
+        names = bench.good([script, bench.program, out]).split()
+        made.append([next(name for name in names if name.endswith(end_)) for end_ in (".deb", ".whl")])
+    for (first, wheel), (second, other) in zip(made, made[1:]):
+        bench.good(["dpkg", "--compare-versions", second.split("_")[1], "gt", first.split("_")[1]])
+        assert re.search(r"dev(\d+)", other)[1] > re.search(r"dev(\d+)", wheel)[1], f"{wheel} {other}"
+    number = re.search(r"^## (\d+\.\d+\.\d+), not released", changes.read_text(), re.M)[1]
+    bench.good([*git, "tag", f"v{number}"])
+    told = bench.run([script, bench.program, out])
+    assert told.returncode == 7 and "the digest of its program: " in told.stderr, told.stderr
+    digest = told.stderr.split()[-1]
+    changes.write_text(changes.read_text().replace("not released\n", f"2027-01-15\n\nProgram: `{digest}`\n", 1))
+    bench.good([*git, "commit", "-q", "-a", "-m", "Release"])
+    bench.told([script, bench.program, out], 7, "wants a head for the next version")
+    bench.good([*git, "tag", "-f", f"v{number}"])
+    assert f"puzzles_{number}_" in bench.good([script, bench.program, out])
+
+
+def test_pipe(packages):
+    """where nobody reads on it ends with a sentence"""
+    words = '"$@" | head -1 > /dev/null; exit ${PIPESTATUS[0]}'
+    done = packages.bench.run(["bash", "-c", words, "bash", TOP / "packaging/package.py", packages.bench.program,
+                               packages.folder / "piped"])
+    assert (done.returncode, done.stderr) in [(6, "package.py: Broken pipe\n"), (0, "")], f"{done.returncode} {done.stderr}"
 
 
 def test_faults(packages):

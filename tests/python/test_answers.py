@@ -190,6 +190,35 @@ def test_graded(bench):
     assert run(bench, LATE_GRADE) == ["one late several", "local"]
 
 
+LIBRARY = """
+library, calls = puzzles.Library(sys.argv[1]), 0
+for game, text, size in [line.split() for line in sys.stdin]:
+    grid = puzzles.solve(game, text).grids[0]
+    for name, words, more in [("solve", (text,), {}), ("solve", (text,), {"budget": 0}), ("solve", (text + "x",), {}),
+                              ("check", (text, grid), {}), ("check", (text, grid[::-1]), {}), ("check", (text, "\\n".join(grid)), {}),
+                              ("grade", (text,), {}), ("grade", (text,), {"trace": True}), ("grade", (" " + text,), {"budget": 2}),
+                              ("generate", (size, 3), {"budget": 50}), ("generate", (size, 3), {"tries": 0}),
+                              ("generate", (size, -1), {}), ("generate", (size, 1), {"black": 101}), ("solve", ("a\\0b",), {}),
+                              ("solve", (text,), {"budget": 2**64}), ("solve", ("1" * 70_000,), {})]:
+        mine, wanted = (getattr(one, name)(game, *words, **more) for one in (library, puzzles))
+        assert mine == wanted, f"{name} {game} {words} {more}: {mine}, wanted {wanted}"
+        calls += 1
+    assert list(library.solve_all(game, [text, ""])) == list(puzzles.solve_all(game, [text, ""]))
+for call in lambda: library.solve("chess", "2x2:p"), lambda: library.solve("solo", b"2x2:p"), lambda: puzzles.Library("/nowhere"):
+    try:
+        call()
+    except (ValueError, TypeError, OSError) as fault:
+        print(type(fault).__name__)
+print(calls)
+"""
+
+
+def test_library(bench, library):
+    """the library answers by the same names, with the same types, what the program answers"""
+    given = [f"{game} {bench.generate(game, sizes[0], 2)[0]} {sizes[0]}\n" for game, sizes in SIZES.items()]
+    assert run(bench, LIBRARY, library, given="".join(given)) == ["ValueError", "TypeError", "OSError", str(16 * len(given))]
+
+
 def test_wrong_kinds(bench):
     """what is no text, no whole number or no game is told in words, and a grid may be one text"""
     assert run(bench, WRONG_KINDS) == WRONG_KINDS_WANTED

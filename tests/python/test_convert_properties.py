@@ -4,7 +4,7 @@ import pytest
 hypothesis = pytest.importorskip("hypothesis", reason="no hypothesis")
 from hypothesis import HealthCheck, given, settings, strategies as st  # noqa: E402
 
-from puzzles.convert import nonograms, sudokus  # noqa: E402
+from puzzles.convert import links, nonograms, sudokus  # noqa: E402
 from puzzles.ids import Puzzle, read, written  # noqa: E402
 
 HOW = settings(deadline=None, max_examples=200, derandomize=True, suppress_health_check=list(HealthCheck))
@@ -38,7 +38,7 @@ def test_sudoku(text):
         ruled += ["------+-------+------"] if row in (3, 6) else []
         ruled.append(" | ".join(" ".join(line[at:at + 3]) for at in (0, 3, 6)))
     for form in (text, "\n".join(lines), "\n".join(ruled)):
-        assert [found for _, *found in sudokus.read_text(form)] == [[wanted, None]], form
+        assert [found[1:] for found in sudokus.read_text(form)] == [(wanted, None, "solo")], form
     assert sudokus.write_text(read("solo", wanted)) == text
 
 
@@ -54,4 +54,22 @@ def patterns(draw):
 @HOW
 @given(patterns())
 def test_nonogram(puzzle):
-    assert [found for _, *found in nonograms.read_non(nonograms.write_non(puzzle))] == [[written(puzzle), None]]
+    assert [found[1:] for found in nonograms.read_non(nonograms.write_non(puzzle))] == [(written(puzzle), None, "pattern")]
+
+
+@HOW
+@given(st.integers(1, 9), st.integers(1, 9), st.data())
+def test_link_of_akari(width, height, data):
+    cells = data.draw(st.lists(st.sampled_from(["", "", "", "#", *"01234"]), min_size=width * height, max_size=width * height))
+    puzzle = Puzzle("lightup", f"{width}x{height}", width, height, None, cells=cells)
+    assert [found[1:] for found in links.read_link(links.write_link(puzzle))] == [(written(puzzle), None, "lightup")]
+
+
+@HOW
+@given(st.sampled_from([2, 3, 4, 5]), st.data())
+def test_link_of_sudoku(block, data):
+    side = block * block
+    values = st.sampled_from(["", "", *map(str, range(1, side + 1))])
+    cells = data.draw(st.lists(values, min_size=side * side, max_size=side * side))
+    puzzle = Puzzle("solo", f"{block}x{block}", side, side, (block, block), cells=cells)
+    assert [found[1:] for found in links.read_link(links.write_link(puzzle))] == [(written(puzzle), None, "solo")]

@@ -78,6 +78,36 @@ def has_terminal():
     return True
 
 
+@pytest.mark.parametrize("tool", ["book", "collect"])
+def test_manuals_of_tools(bench, tool):
+    """the pages of tools have no warning, and name no option or command that the tool doesn't tell"""
+    path = TOP / "docs" / f"puzzles-{tool}.1"
+    done = bench.run(["mandoc", "-T", "lint", "-W", "warning", path])
+    assert done.returncode == 0 and not done.stdout, done.stdout
+    told = bench.good([f"puzzles-{tool}", "--help"])
+    told += "".join(bench.good([f"puzzles-{tool}", name, "--help"]) for name in ("add", "list") if tool == "collect")
+    text = path.read_text()
+    named = {*re.findall(r"^\.Fl -(\S+)", text, re.M), *re.findall(r" --([a-z-]+)", text)}
+    assert named and all(f"--{name}" in told for name in named), f"{named}"
+    commands = re.findall(r"^\.It Cm (\S+)", text, re.M)
+    assert all(re.search(rf"\b{name} ", told) for name in commands) and bool(commands) == (tool == "collect"), f"{commands}"
+
+
+@pytest.mark.skipif(not has_terminal(), reason="no terminal for a program (openpty)")
+def test_completions_of_tools(bench):
+    """bash, zsh and fish offer a tool's options as it tells them by --help"""
+    path = installed(bench)
+    for name, tool in bench.tools.items():
+        shutil.copy(tool, bench.folder / ".local" / "bin" / name)
+    line = "puzzles-book --pap"
+    loaded = BASH.replace("_completion_loader puzzles; [ $? = 124 ] && _puzzles", "_completion_loader puzzles; _puzzles_tool puzzles-book")
+    found = {"bash": bench.run(["bash", "--norc", "-c", loaded, "bash", line], PATH=path).stdout.split(),
+             "fish": bench.run(["fish", "-c", "source ~/.config/fish/completions/puzzles.fish; complete -C '" + line + "'"],
+                               PATH=path).stdout.split(),
+             "zsh": re.findall("<([^<>\r\n]+)>", bench.run(["zsh", "-f", "-c", ZSH, "zsh", line], PATH=path).stdout)}
+    assert found == {shell: ["--paper"] for shell in found}, f"{found}"
+
+
 @pytest.mark.skipif(not has_terminal(), reason="no terminal for a program (openpty)")
 def test_completions(bench):
     """bash, zsh and fish find the completions, which offer README's commands, games and options, each where it may stand"""

@@ -16,6 +16,8 @@
     with puzzles.Worker("solo", budget=20_000, seconds=2) as worker:    a kept process behind a page
         worker.solve("3x3:..").verdict
 
+    puzzles.Library("libpuzzles.so").solve("solo", "3x3:..")        the same calls in this process, without a clock
+
 A game is `solo`, `pattern`, `lightup` or `tents`. Times are seconds, budgets are trials. A text that is
 no puzzle is no error: its verdict is `Verdict.REFUSED`, and `refusal` tells why. `NoAnswer` is raised
 where there is no answer, and `Late`, a kind of it, where the clock ended the program. `puzzles.ids` reads,
@@ -26,8 +28,9 @@ The program is found beside this Python, or on the path, or where the variable P
 from .answers import Answer, Checked, Grade, Graded, Grid, Made, Solved, Verdict
 from .calls import check, generate, grade, solve
 from .grades import grade_all
+from .in_process import Library
 from .process import Game, Late, NoAnswer, program
 from .worker import Worker, solve_all
 
-__all__ = ["Answer", "Checked", "Game", "Grade", "Graded", "Grid", "Late", "Made", "NoAnswer", "Solved", "Verdict",
+__all__ = ["Answer", "Checked", "Game", "Grade", "Graded", "Grid", "Late", "Library", "Made", "NoAnswer", "Solved", "Verdict",
            "Worker", "check", "generate", "grade", "grade_all", "program", "solve", "solve_all"]

@@ -1,6 +1,8 @@
 """How large drawings are, and which stand on one page. Lengths are millimetres."""
+import argparse
 import dataclasses
 import math
+import re
 from typing import List, Optional, Sequence, Tuple
 
 from .._work import REFUSED, Fault
@@ -16,6 +18,7 @@ LEAST_CELL = 4.0
 LEAST_SOLVED_CELL = {"pattern": 2.4, "tents": 4.0}
 SOLVED_SIDE, SOLVED_CELLS = 34, 12  # a smaller Pattern or Tents is as wide as one of so many cells
 COMFORT = {"solo": 6.5, "pattern": 5.75, "lightup": 6.0, "tents": 6.0}
+BY_WIDTH = ((140, 11, 8), (165, 12, 9), (205, 14, 10), (math.inf, 15, 10))  # at most so wide: the margin, and the text's points
 GRIDS = ((3, 4), (3, 3), (2, 4), (2, 3), (2, 2), (1, 3), (1, 2), (1, 1))  # puzzles across and down
 
 
@@ -28,8 +31,22 @@ class Paper:
     text: float
 
 
-PAPERS = {"A4": Paper(210, 297, 15, 10), "letter": Paper(215.9, 279.4, 15, 10), "8x10": Paper(203.2, 254, 14, 10),
-          "6x9": Paper(152.4, 228.6, 12, 9), "A5": Paper(148, 210, 12, 9)}
+NAMED = {"A4": (210, 297), "A5": (148, 210), "letter": (215.9, 279.4), "8x10": (203.2, 254), "7x10": (177.8, 254),
+         "6x9": (152.4, 228.6), "5.5x8.5": (139.7, 215.9), "5x8": (127, 203.2), "8.5x8.5": (215.9, 215.9)}  # the last six: inches
+LEAST_SIDE, MOST_SIDE = 100, 450  # of another paper
+
+
+def paper(word: str) -> Paper:
+    """A paper by its name, or by its width and height in millimetres, as 170x240."""
+    if word in NAMED:
+        width, height = NAMED[word]
+    else:
+        found = re.fullmatch(r"(\d{3}(?:\.\d{1,2})?)x(\d{3}(?:\.\d{1,2})?)", word)
+        width, height = map(float, found.groups()) if found else (0, 0)
+        if not all(LEAST_SIDE <= side <= MOST_SIDE for side in (width, height)):
+            raise argparse.ArgumentTypeError(f"{word} is none of {', '.join(NAMED)}, and no width and height of {LEAST_SIDE} to "
+                                             f"{MOST_SIDE} mm, as 170x240")
+    return Paper(width, height, *next(more for most, *more in BY_WIDTH if width <= most))
 
 
 @dataclasses.dataclass(frozen=True)
@@ -39,6 +56,7 @@ class Sheet:
     gutter: float = 0  # more margin where the page is bound
     is_bare: bool = False  # no IDs
     is_large: bool = False  # one puzzle a page
+    least_cell: float = LEAST_CELL  # of a puzzle
 
     @property
     def width(self) -> float:
@@ -69,7 +87,7 @@ class Places:
 
 def check(sheet: Sheet, puzzle: Puzzle) -> None:
     """Tells before anything is made that grids of a size are too large, whatever their clues."""
-    cell = max(LEAST_CELL, solved_cell(sheet, puzzle))
+    cell = max(sheet.least_cell, solved_cell(sheet, puzzle))
     if puzzle.width * cell > sheet.width or puzzle.height * cell + LABEL > sheet.height:
         raise Fault(f"a puzzle of {puzzle.game} {puzzle.size} doesn't fit the paper with cells of {cell:.1f} mm", REFUSED)
 
@@ -84,11 +102,12 @@ def places(sheet: Sheet, puzzles: Sequence[Puzzle], ids: Sequence[str]) -> Place
         id_lines = 0 if sheet.is_bare else math.ceil(max(map(len, ids)) * ID_WIDTH / (column * ID_SHARE))
         room = sheet.height / down - LABEL - CAPTION - ID_HEIGHT * id_lines
         cell = min(sheet.largest_cell, column / widest, room / tallest)
-        least = LEAST_CELL if across == down == 1 else COMFORT[game]
+        least = sheet.least_cell if across == down == 1 else max(sheet.least_cell, COMFORT[game])
         if cell >= least and (not found or pages == fewest and cell >= found.cell):
             found, fewest = Places(across, down, cell, room - cell * tallest), pages
     if not found:
-        raise Fault(f"a puzzle of {game} {puzzles[0].size} doesn't fit the paper: its cells would be {cell:.1f} mm wide", REFUSED)
+        largest = max(puzzles, key=lambda one: max(Room(one, False).width / column, Room(one, False).height / room))
+        raise Fault(f"a puzzle of {game} {largest.size} doesn't fit the paper: its cells would be {cell:.1f} mm wide", REFUSED)
     return found
 
 

@@ -5,10 +5,10 @@ import contextlib
 import functools
 import itertools
 import os
-from typing import Callable, Deque, Generator, Iterable, Iterator, List, Optional, Sequence, Tuple
+from typing import Callable, Collection, Deque, Generator, Iterable, Iterator, List, Optional, Sequence, Tuple
 
 from . import levels
-from .chapters import Chapter, Made
+from .chapters import Chapter, Made, Seed
 from .._effort import effort
 from .._work import REFUSED, Bar, Fault, Program
 from ..ids import read, written
@@ -37,12 +37,12 @@ class Maker:
         found = self.journal.get(key)
         return found and Made(seed, *found)
 
-    def taken(self, game: str, text: str) -> Made:
+    def taken(self, game: str, text: str, seed: Seed) -> Made:
         """A puzzle of a file, which must have one solution."""
         verdict, *answer = self.program.ask("solve", "--", game, text)
         if verdict != "one":
             raise Fault(f"no puzzle for a book, since `solve` answers {verdict}: {text}", REFUSED)
-        return Made("", text, answer, self.program.ask("grade", "--", game, text)[0], 0)
+        return Made(seed, text, answer, self.program.ask("grade", "--", game, text)[0], 0)
 
     def made(self, asked: Chapter, seed: int) -> Found:
         ask, is_crossed = self.program.ask, asked.size.endswith("x")
@@ -70,16 +70,18 @@ def fill(maker: Maker, chapters: Sequence[Chapter], first: int, bar: Bar) -> Lis
     """The puzzles of each chapter: of its file, or by ascending seeds. Chapters take turns at these, so no grid comes twice."""
     found: List[List[Made]] = []
     done, turns, step = 0, itertools.count(first), sum(not one.ids for one in chapters)
+    chosen = {(one.game, text) for one in chapters for text in one.ids}
     with concurrent.futures.ThreadPoolExecutor(os.cpu_count()) as pool:
         try:
             for asked in chapters:
                 tell = functools.partial(told, bar, done)
                 if asked.ids:
-                    found.append(list(progress(pool.map(functools.partial(maker.taken, asked.game), asked.ids), tell)))
+                    seeds = asked.seeds or [""] * len(asked.ids)
+                    found.append(list(progress(pool.map(functools.partial(maker.taken, asked.game), asked.ids, seeds), tell)))
                 else:
                     start = next(turns)
                     made = in_order(maker, pool, asked, range(start, start + SEEDS_FOR_ONE * asked.count * step, step))
-                    found.append(fill_one(asked, made, tell))
+                    found.append(fill_one(asked, made, tell, chosen))
                 done += asked.count
         except BaseException:
             maker.program.stop()
@@ -117,14 +119,15 @@ def in_order(maker: Maker, pool: concurrent.futures.Executor, asked: Chapter,
             future.cancel()
 
 
-def fill_one(asked: Chapter, made: Generator[BySeed, None, None], tell: Tell) -> List[Made]:
-    """The puzzles of a chapter, of the seeds in `made`."""
+def fill_one(asked: Chapter, made: Generator[BySeed, None, None], tell: Tell, chosen: Collection[Tuple[str, str]]) -> List[Made]:
+    """The puzzles of a chapter, of the seeds in `made`, and none of those that files have."""
     taken: List[Made] = []
     is_barren, wanted = True, asked.needed()
     with contextlib.closing(made):
         for tried, (seed, one) in enumerate(made, 1):
             is_barren = is_barren and not one
-            taken += [one] if one and levels.takes(asked.level, asked.game, one.grade) else []
+            if one and levels.takes(asked.level, asked.game, one.grade) and (asked.game, one.id) not in chosen:
+                taken.append(one)
             tell(asked.count * len(taken) // wanted, seed)
             if len(taken) == wanted:
                 return asked.chosen(taken)

@@ -15,6 +15,8 @@ from ..ids import Puzzle, Room, read, read_grid, svg
 CONTENTS_HEIGHT = 7.2  # of a line, in millimetres
 RULES_ROOM = 225  # millimetres of a page that has all rules of a game, if grades are told
 BREAK = "<hr>"  # between two pages of a file
+# Front matter is text and pictures: no script runs, and no other page comes in.
+POLICY = """<meta http-equiv="Content-Security-Policy" content="default-src 'none'; style-src 'unsafe-inline'; img-src data: file:">"""
 EXAMPLES = {"solo": "2x2:1b4i3_2a", "pattern": "5x5:2/4/4/4/2/1.1/5/5/3/1", "lightup": "5x5:2c0cBfB01c2a1B",
             "tents": "5x5:ca_bgdb,1,2,1,1,1,3,0,1,1,1"}
 STYLE = pathlib.Path(__file__).resolve().with_name("book.css")
@@ -25,6 +27,13 @@ class Listed(NamedTuple):
     name: str
     numbers: str  # of its puzzles
     page: int
+
+
+class FirstPage(NamedTuple):
+    """What the first page has besides its title and the number of puzzles; what is empty isn't there."""
+    subtitle: str
+    author: str
+    picture: str  # an address that has all of it
 
 
 class Book:
@@ -64,7 +73,7 @@ class Book:
             width=paper.width, height=paper.height, side=paper.side, inner=paper.side + self.sheet.gutter, text=paper.text,
             drop=paper.height / 5, room=self.sheet.height, top=layout.TOP, bottom=layout.BOTTOM, heading=layout.HEADING,
             gap=layout.GAP, solved_gap=layout.SOLVED_GAP, label=layout.LABEL, caption=layout.CAPTION)
-        return (f'<!doctype html><html lang="{self.texts["language"]}"><meta charset="utf-8"><title>{html.escape(self.title)}'
+        return (f'<!doctype html><html lang="{self.texts["language"]}"><meta charset="utf-8">{POLICY}<title>{html.escape(self.title)}'
                 f"</title><style>{style}</style><body>{''.join(self.pages)}")
 
     def name(self, puzzle: Puzzle) -> str:
@@ -76,11 +85,14 @@ class Book:
         return f"<figure><figcaption>{caption}</figcaption>{drawn}{below}</figure>"
 
 
-def add_front(book: Book, count: int, front: str) -> None:
+def add_front(book: Book, count: int, front: str, first: FirstPage) -> None:
     """The first page, and those of a file of HTML."""
     texts = book.texts
     counted = texts["one puzzle"] if count == 1 else texts["puzzles"].format(count=count)
-    book.add(f"<h1>{html.escape(book.title)}</h1><p>{counted}</p>")
+    subtitle = f"<p class=subtitle>{html.escape(first.subtitle)}</p>" if first.subtitle else ""
+    author = f"<p class=author>{html.escape(first.author)}</p>" if first.author else ""
+    drawn = f'<img class=picture src="{first.picture}" alt="">' if first.picture else ""
+    book.add(f"<h1>{html.escape(book.title)}</h1>{subtitle}<p class=count>{counted}</p>{drawn}{author}")
     for part in front.split(BREAK) if front else []:
         book.add(part, has_number=False)
 
@@ -94,14 +106,16 @@ def add_contents(book: Book, listed: Sequence[Listed], count: int) -> None:
         book.add(f"{book.head(book.texts['contents'])}<table class=contents>{''.join(rows[first:first + step])}</table>")
 
 
-def add_rules(book: Book, game: str, solve: Callable[[str, str], List[str]]) -> int:
-    """The rules of a game, on one page or two; `solve` gives the rows of the only solution of an ID."""
+def add_rules(book: Book, game: str, solve: Callable[[str, str], List[str]], is_crossed: bool) -> int:
+    """The rules of a game, on one page or two, those of the diagonals where the book has some. `solve` gives the rows of the only
+    solution of an ID."""
     texts, puzzle = book.texts, read(game, EXAMPLES[game])
     solved, cell = read_grid(puzzle, solve(game, EXAMPLES[game])), min(9, 45 / puzzle.width)
     head = book.head(how(texts, game), texts["other names"][game])
     drawn = "".join(book.drawing(puzzle, cells, cell, caption, is_small=False)
                     for cells, caption in ((None, texts["the puzzle"]), (solved, texts["its solution"])))
-    rules = (f"<ol>{''.join(f'<li>{rule}</li>' for rule in texts['rules'][game])}</ol>"
+    all_rules = [*texts["rules"][game], *(texts["rules"]["solo x"] if is_crossed else [])]
+    rules = (f"<ol>{''.join(f'<li>{rule}</li>' for rule in all_rules)}</ol>"
              f"<p class=part>{texts['example']}</p><div class=example>{drawn}</div>")
     begin = f"<p class=part>{texts['how to begin']}</p><p>{texts['beginnings'][game]}</p>"
     meanings = f"<p>{texts['one solution']}</p>" if book.sheet.is_bare else grades(texts, game)
@@ -128,10 +142,10 @@ def grades(texts: Texts, game: str) -> str:
 def heading(book: Book, asked: Chapter, puzzle: Puzzle) -> str:
     """What a chapter is called; the size of Solo counts blocks."""
     words = {"name": book.name(puzzle), "size": asked.size, "width": puzzle.width, "height": puzzle.height,
-             "level": book.texts["levels"][asked.level], "file": html.escape(asked.size)}
+             "level": book.texts["levels"][asked.level], "file": html.escape(asked.title)}
     texts = book.texts
     whole = texts["heading of any"] if asked.level == "any" else texts["heading"]
-    return (texts["heading of a file"] if asked.ids else whole).format(**words)
+    return (texts["heading of a file"] if asked.title else whole).format(**words)
 
 
 def grade_of(texts: Texts, grade: str) -> str:
@@ -144,7 +158,7 @@ def add_chapter(book: Book, asked: Chapter, entries: Sequence[Entry], page_of_so
     texts, puzzle = book.texts, entries[0].puzzle
     at = places(book.sheet, [entry.puzzle for entry in entries], [entry.id for entry in entries])
     words, step = heading(book, asked, puzzle), at.across * at.down
-    is_told = puzzle.block and "{size}" in texts["heading"] and not asked.ids
+    is_told = puzzle.block and "{size}" in texts["heading"] and not asked.title
     cells = texts["cells"].format(width=puzzle.width, height=puzzle.height) if is_told else ""
     rows = f"repeat({at.down},{book.sheet.height / at.down:.2f}mm)"
     style = f"grid-template:{rows}/repeat({at.across},1fr);padding-top:{at.spare / 2:.2f}mm"

@@ -11,7 +11,8 @@
     collect.py grades puzzles.db solo new.txt grades.txt      takes in what `grade` answered to each line of new.txt
 
 It can be stopped at any time, and the same words go on from there: each step is one transaction, with how far the file was
-read. A line that is no ID is told, kept in the table `refusal`, and holds nothing back.
+read. A line that is no ID is told, kept in the table `refusal`, and holds nothing back. Empty lines, and those that begin with #,
+are passed over.
 Statuses: 0; 2 words refused, or lines of the file; 6 a fault of a file or the table; 7 the program isn't there, or failed; 130
 stopped.
 """
@@ -19,11 +20,11 @@ import argparse
 import contextlib
 import functools
 import itertools
-import multiprocessing
+import multiprocessing.pool
 import os
 import signal
 import sys
-from typing import Callable, Dict, Iterable, List, Optional, TypeVar
+from typing import Callable, ContextManager, Dict, Iterable, List, Optional, TypeVar
 
 from .forms import form
 from .grading import ID_SECONDS, Grader, Measurer
@@ -34,6 +35,7 @@ from ..ids import GAMES, Refused, lines, read, written
 from .table import NO_GRADES, RULE_SETS, Met, Table
 
 STEP = 1000  # lines in a transaction
+MARK = b"\xef\xbb\xbf"  # with which some programs begin a file
 TOLD = 10  # refused lines that are told one by one
 WITH_PROGRAM = ("add", "grade", "measure")
 One = TypeVar("One")
@@ -86,7 +88,10 @@ def add(asked: Asked, table: Table) -> int:
 
 
 def row(game: str, line: bytes) -> Met:
-    """What a line adds to the table: ID, size and clues; or the fault that it has."""
+    """What a line adds to the table: ID, size and clues; or the fault that it has. An empty line and a remark have neither."""
+    line = line.removeprefix(MARK).strip(b" \t\r")
+    if not line or line.startswith(b"#"):
+        return None, None
     try:
         puzzle = read(game, line)
     except Refused as fault:
@@ -128,15 +133,25 @@ def leave_signals() -> None:
     signal.signal(signal.SIGTERM, signal.SIG_DFL)
 
 
+def processes() -> ContextManager[Optional[multiprocessing.pool.Pool]]:
+    """Processes for all cores. Where the machine has no shared memory for them, as some containers, one core does it all."""
+    try:
+        return multiprocessing.Pool(os.cpu_count(), leave_signals)
+    except OSError as fault:
+        print(f"one core finds the forms, for there is no shared memory (/dev/shm): {fault.strerror}", file=sys.stderr)
+        return contextlib.nullcontext()
+
+
 def find_forms(asked: Asked, table: Table) -> None:
     """Finds the forms of puzzles, on all cores."""
     bar, ids = Bar("forms", table.count(asked.game, WITHOUT_FORM)), table.ids(asked.game, WITHOUT_FORM)
-    with multiprocessing.Pool(os.cpu_count(), leave_signals) as pool:
-        parts = iter(lambda: list(itertools.islice(ids, STEP)), [])
-        all_done(bar, (list(zip(part, pool.map(functools.partial(form, asked.game), part, 50))) for part in parts),
-                 functools.partial(table.set, "form", asked.game))
-        pool.close()  # in order: to a process that has only just begun, the pool's end by a signal may be lost, and then it waits
-        pool.join()
+    parts, find = iter(lambda: list(itertools.islice(ids, STEP)), []), functools.partial(form, asked.game)
+    with processes() as pool:
+        found = (list(zip(part, pool.map(find, part, 50) if pool else map(find, part))) for part in parts)
+        all_done(bar, found, functools.partial(table.set, "form", asked.game))
+        if pool:
+            pool.close()  # in order: to a process that has only just begun, its end by a signal may be lost, and then it waits
+            pool.join()
     found = table.base.execute("SELECT count(*), coalesce(sum(count), 0) FROM doubles WHERE game = ?", (asked.game,)).fetchone()
     print("{:,} forms are of {:,} puzzles: the view `doubles` has them".format(*found))
 

@@ -30,6 +30,7 @@ CREATE VIEW doubles AS SELECT game, form, count(*) AS count, min(id) AS first, g
 PRAGMA user_version = {VIEWS};
 """
 RULE_SETS = ("singles", "houses", "crossings", "lines", "local")
+PASSED = ""  # the ID in `met` of empty lines and remarks
 NO_GRADES = ("none", "several", "gave up", "clock")
 Row = Tuple[str, str, int]  # ID, size and clues
 Met = Tuple[Optional[Row], Optional[str]]  # what a line adds, or its fault
@@ -38,7 +39,7 @@ Step = Tuple[str, Sequence[Tuple[object, ...]]]  # a statement, and its rows
 
 class Table:
     """`source` has how many lines of a file were taken, and a digest of them; `met` how often a puzzle stands in it, and on which
-    line first."""
+    line first, and as one of an empty ID the lines that were passed over."""
 
     def __init__(self, path: Union[str, "os.PathLike[str]"]):
         self.digest = hashlib.sha256()
@@ -110,7 +111,7 @@ class Table:
             ("INSERT INTO puzzle (id, game, size, clues, source, times) VALUES (?, ?, ?, ?, ?, 1) "
              "ON CONFLICT DO UPDATE SET times = times + 1", rows),
             ("INSERT INTO met VALUES (?, ?, ?, 1, ?) ON CONFLICT DO UPDATE SET times = times + 1",
-             [(source, game, row[0], number) for number, (row, _) in numbered if row]),
+             [(source, game, row[0] if row else PASSED, number) for number, (row, fault) in numbered if not fault]),
             ("INSERT INTO refusal VALUES (?, ?, ?, ?)",
              [(source, number, game, fault) for number, (_, fault) in numbered if fault]), must=1)
 

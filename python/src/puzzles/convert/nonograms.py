@@ -3,8 +3,10 @@ import re
 import xml.etree.ElementTree
 from typing import Dict, Iterator, List, Optional, Tuple
 
+from .found import Found
 from ..ids import Puzzle, written
 
+SIZE = re.compile(r"(?i)(width|height)\s+(\d{1,9})\s*$")
 PARTS = {"rows": "height", "columns": "width"}
 CLUE = re.compile(r"[\d,.\s]*")
 Clues = List[List[int]]
@@ -16,26 +18,43 @@ def id_of(columns: Clues, rows: Clues) -> str:
     return written(Puzzle("pattern", f"{width}x{height}", width, height, cells=[""] * (width * height), clues=[*columns, *rows]))
 
 
-def read_non(text: str) -> Iterator[Tuple[int, Optional[str], Optional[str]]]:
-    """The number of each puzzle of a file, with its ID or with what is wrong. A second `width` begins another puzzle."""
-    parts = re.split(r"(?m)^(?=width\b)", text, flags=re.I)
-    if len(parts) == 1:
-        yield 1, None, "there is no line `width`"
-    for number, part in enumerate(parts[1:], 1):
-        size = {word.lower(): int(count) for word, count in re.findall(r"(?mi)^(width|height)\s+(\d{1,9})\s*$", part)}
+def read_non(text: str) -> Iterator[Found]:
+    """The puzzles of a file, by the lines of their `width` or `height`, whichever comes first."""
+    found = [*puzzles_of(text)]
+    if not found:
+        yield Found(1, None, "there is no line `width`")
+    for number, size, part in found:
         clues = clues_of(part)
-        found = {word: clues[word][:size.get(side, 0)] for word, side in PARTS.items()}
-        if any(len(found[word]) != size.get(side) for word, side in PARTS.items()):
-            yield number, None, "rows or columns are missing, or more than `width` and `height` tell"
+        sides = {word: clues[word][:size.get(side, 0)] for word, side in PARTS.items()}
+        if any(len(sides[word]) != size.get(side) for word, side in PARTS.items()):
+            yield Found(number, None, "rows or columns are missing, or more than `width` and `height` tell")
         else:
-            yield number, id_of(found["columns"], found["rows"]), None
+            yield Found(number, id_of(sides["columns"], sides["rows"]), None, "pattern")
 
 
-def clues_of(part: str) -> Dict[str, Clues]:
+def puzzles_of(text: str) -> Iterator[Tuple[int, Dict[str, int], List[str]]]:
+    """Of each puzzle the line of its size, the size, and the lines behind. A second `width` or `height` begins another puzzle."""
+    first = 0
+    size: Dict[str, int] = {}
+    part: List[str] = []
+    for number, line in enumerate(text.splitlines(), 1):
+        found = SIZE.match(line)
+        if found and (not first or found[1].lower() in size):
+            if first:
+                yield first, size, part
+            first, size, part = number, {}, []
+        if found:
+            size[found[1].lower()] = int(found[2])
+        part.append(line)
+    if first:
+        yield first, size, part
+
+
+def clues_of(part: List[str]) -> Dict[str, Clues]:
     """The clues below the words `rows` and `columns`; an empty line or a 0 is an empty clue, but not behind the words."""
     clues: Dict[str, Clues] = {"rows": [], "columns": []}
     into: Optional[Clues] = None
-    for line in part.splitlines():
+    for line in part:
         word = line.strip().lower()
         if word in clues:
             into = clues[word]
@@ -52,20 +71,20 @@ def write_non(puzzle: Puzzle) -> str:
                       *clues[:puzzle.width], ""])
 
 
-def read_pbn(text: str) -> Iterator[Tuple[int, Optional[str], Optional[str]]]:
-    """The same of the XML of webpbn.com."""
+def read_pbn(text: str) -> Iterator[Found]:
+    """The puzzles of the XML of webpbn.com."""
     if "<!ENTITY" in text:
-        yield 1, None, "entities of its own"
+        yield Found(1, None, "entities of its own")
         return
     try:
         puzzles = list(xml.etree.ElementTree.fromstring(text).iter("puzzle"))
     except xml.etree.ElementTree.ParseError as fault:
-        yield 1, None, f"no XML: {fault}"
+        yield Found(1, None, f"no XML: {fault}")
         return
     if not puzzles:
-        yield 1, None, "there is no puzzle in it"
+        yield Found(1, None, "there is no puzzle in it")
     for number, puzzle in enumerate(puzzles, 1):
-        yield number, *pbn_answer(puzzle)
+        yield Found(number, *pbn_answer(puzzle), "pattern")
 
 
 def pbn_answer(puzzle: xml.etree.ElementTree.Element) -> Answer:

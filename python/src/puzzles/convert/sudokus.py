@@ -1,8 +1,10 @@
-"""Solo in the formats of sudoku programs: lines of 81 signs (.sdm, .txt), and nine lines of nine (.sdk, .ss)."""
+"""Solo in the formats of sudoku programs: lines of 81 signs (.sdm, .txt, .csv), nine lines of nine (.sdk, .ss), OpenSudoku."""
 import math
 import re
+import xml.etree.ElementTree
 from typing import Iterator, List, Optional, Tuple
 
+from .found import Found
 from ..ids import Puzzle, Refused, written
 
 SIGNS = "123456789ABCDEFGHIJKLMNOPQRSTUV"  # of numbers, in a grid of up to 31
@@ -10,32 +12,39 @@ BLANKS = ".0*_?xX"
 SMALLEST = 16  # signs of a grid of four by four, which may be a line
 RULER = re.compile(r"[|\s+-]")
 COMMENT = re.compile(r"\s*(?:#|\[(?!Puzzle))", re.I)
-TITLE = re.compile(r"\s*\[Puzzle\]", re.I)
+TITLE, STATE = re.compile(r"\s*\[Puzzle\]", re.I), re.compile(r"\s*\[State\]", re.I)  # the second: how far a player came
+HEAD = re.compile(r"[\"\w ]*[A-Za-z][\"\w ]*([,;][\"\w ]+)+\s*")  # of a table, on its first line
+FIELD = re.compile(r"(?:^|[\s,;:|\"])([0-9._*?]{81}|[0-9A-Ga-g._*?]{256})(?=$|[\s,;:|\"#])")  # of a table, or before a remark
+PLACES = 81  # of OpenSudoku
 
 
-def read_text(text: str) -> Iterator[Tuple[int, Optional[str], Optional[str]]]:
-    """The number of each puzzle of a file, with its ID or with what is wrong."""
-    for number, cells in enumerate(grids(text), 1):
-        yield number, *answer(cells)
+def read_text(text: str) -> Iterator[Found]:
+    """The puzzles of a file, by the lines on which they begin."""
+    for number, cells in grids(text):
+        yield Found(number, *answer(cells), "solo")
 
 
-def grids(text: str) -> Iterator[str]:
-    """The signs of each grid: of a long line, or of as many lines as the first one has signs."""
+def grids(text: str) -> Iterator[Tuple[int, str]]:
+    """The line and the signs of each grid: of a long line, of a field of one, or of as many lines as the first one has signs."""
     rows: List[str] = []
-    for line in [*text.splitlines(), ""]:
-        cells = RULER.sub("", line)
-        is_end = COMMENT.match(line) or TITLE.match(line) or not cells and not is_ruler(line)
+    first, is_state = 0, False
+    for number, line in enumerate([*text.splitlines(), ""], 1):
+        is_state = not TITLE.match(line) and (is_state or bool(STATE.match(line)))
+        field = None if COMMENT.match(line) else FIELD.search(line)
+        cells = field[1] if field else RULER.sub("", line)
+        is_end = is_state or COMMENT.match(line) or TITLE.match(line) or not cells and not is_ruler(line)
         if rows and (is_end or len(cells) > len(SIGNS)):
-            yield from [*rows] if len(rows[0]) == SMALLEST else ["".join(rows)]
+            yield from [*enumerate(rows, first)] if len(rows[0]) == SMALLEST else [(first, "".join(rows))]
             rows = []
-        if is_end or not cells:
+        if is_end or not cells or number == 1 and HEAD.fullmatch(line):
             continue
         if len(cells) > len(SIGNS):
-            yield cells
+            yield number, cells
             continue
+        first = first if rows else number
         rows.append(cells)
         if len(rows) == len(rows[0]):
-            yield "".join(rows)
+            yield first, "".join(rows)
             rows = []
 
 
@@ -72,3 +81,39 @@ def write_text(puzzle: Puzzle) -> str:
     if across != down or puzzle.is_crossed:
         raise Refused("a line has no place for blocks that aren't square, nor for diagonals")
     return "".join(SIGNS[int(cell) - 1] if cell else "." for cell in puzzle.cells)
+
+
+def read_open(text: str) -> Iterator[Found]:
+    """The puzzles of a file of OpenSudoku: XML with an element `game` each."""
+    if "<!ENTITY" in text:
+        yield Found(1, None, "entities of its own")
+        return
+    try:
+        games = [game.get("data", "") for game in xml.etree.ElementTree.fromstring(text).iter("game")]
+    except xml.etree.ElementTree.ParseError as fault:
+        yield Found(1, None, f"no XML: {fault}")
+        return
+    if not games:
+        yield Found(1, None, "there is no game in it")
+    for number, data in enumerate(games, 1):
+        cells = cells_of(data)
+        yield Found(number, *(answer(cells) if cells else (None, "no 81 cells")), "solo")
+
+
+def cells_of(data: str) -> Optional[str]:
+    """The 81 signs of a game: as they are, or of fields: a cell's number first, and last whether a player may change it."""
+    if re.fullmatch(r"\d{81}", data.strip()):
+        return data.strip()
+    found = re.fullmatch(r"version: \d+\s+(.*)\|", data.strip(), re.S)
+    parts = found[1].split("|") if found else []
+    each = len(parts) // PLACES
+    if each < 3 or len(parts) != each * PLACES or not all(part in ("0", "1") for part in parts[each - 1::each]):
+        return None
+    return "".join("0" if is_free == "1" else value for value, is_free in zip(parts[::each], parts[each - 1::each]))
+
+
+def write_open(puzzle: Puzzle) -> str:
+    """An element of OpenSudoku's XML, which has sudokus of 9 by 9 alone."""
+    if puzzle.size != "3x3":
+        raise Refused("OpenSudoku has sudokus of 9 by 9 cells alone")
+    return f'  <game data="{"".join(cell or "0" for cell in puzzle.cells)}" />'

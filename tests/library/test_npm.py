@@ -1,0 +1,80 @@
+"""The folder for npm: installed offline by its path, used by its names in Node, with types, and with calls that a clock ends."""
+import json
+import re
+import subprocess
+
+import pytest
+
+from support.bench import SECONDS, TOP
+
+USE = """
+import { readFile } from "node:fs/promises";
+import { Puzzles } from "puzzles-module";
+import { Ended } from "puzzles-module/ended";
+
+const puzzles = await Puzzles.load(await readFile("node_modules/puzzles-module/puzzles.wasm"));
+const said = [puzzles.solve("pattern", "5x1:1/1//1/1/2.2", { budget: 20_000 }), puzzles.solve("solo", "2x2:p", { bugdet: 1 }),
+  puzzles.grade("solo", "2x2:p", "trace"), puzzles.grade("solo", "2x2:1b4i3_2a", null), puzzles.solve("chess", "2x2:p")];
+const ended = new Ended({ seconds: 1 }), begun = performance.now();
+said.push(await ended.generate("solo", "5x6", 1, { budget: 10 ** 9 }));
+const seconds = (performance.now() - begun) / 1000, more = new Ended();
+said.push(...await Promise.all([more.solve("tents", "2x2:_c,0,1,1,0"), more.check("tents", "2x2:_c,0,1,1,0", "T^\\n..\\n"),
+  more.solve("tents", "2x2:p", { seed: 1 })]));
+console.log(JSON.stringify([said, seconds]));
+"""
+WANTED = [[0, "one\n##.##\n"], [2, "refused: words\n"], [2, "refused: words\n"], [0, "singles\n"], [2, "refused: words\n"], None,
+          [0, "one\nT^\n..\n"], [0, "correct\n"], [2, "refused: words\n"]]
+TYPED = """
+import { Puzzles, type Answer } from "puzzles-module";
+import { Ended } from "puzzles-module/ended";
+
+export async function typed(): Promise<string> {
+  const puzzles = await Puzzles.load(fetch("puzzles.wasm"));
+  const answer: Answer = puzzles.generate("pattern", "5x5", 2n ** 64n - 1n, { budget: "0", black: 50 });
+  // @ts-expect-error an option that there isn't
+  puzzles.solve("pattern", "5x1:1/1//1/1/2.2", { bugdet: 1 });
+  // @ts-expect-error no game
+  puzzles.solve("chess", "2x2:p");
+  const late: Answer | undefined = await new Ended({ seconds: 2 }).grade("solo", "2x2:p", { trace: true });
+  return answer.text + (late?.text ?? "");
+}
+"""
+
+
+@pytest.fixture(scope="module")
+def installed(module, tmp_path_factory):
+    """A project that has the folder as its one package."""
+    folder = tmp_path_factory.mktemp("npm")
+    made, project = folder / "made", folder / "project"
+    project.mkdir()
+    subprocess.run([TOP / "library" / "npm_folder.py", module, made], check=True, timeout=SECONDS)
+    (project / "package.json").write_text('{ "type": "module", "private": true }')
+    words = ["npm", "install", "--offline", "--no-audit", "--no-fund", made]
+    done = subprocess.run(words, cwd=project, capture_output=True, text=True, check=False, timeout=SECONDS)
+    assert done.returncode == 0, done.stderr
+    return project
+
+
+@pytest.mark.needs("node", "npm")
+def test_used(installed):
+    """a page's script finds the module by name; a misspelt option is refused; a call that takes too long is ended, and the next
+    one is answered"""
+    done = subprocess.run(["node", "--input-type=module", "-"], input=USE, cwd=installed, capture_output=True, text=True,
+                          check=False, timeout=SECONDS)
+    assert done.returncode == 0, done.stderr
+    said, seconds = json.loads(done.stdout)
+    assert [one and [one["status"], one["text"]] for one in said] == WANTED, f"{said}"
+    assert seconds >= 0.9, f"ended after {seconds} s"
+    about = json.loads((installed / "node_modules" / "puzzles-module" / "package.json").read_text())
+    assert about["version"] == re.search(r"^## (\d+\.\d+\.\d+)", (TOP / "CHANGELOG.md").read_text(), re.M)[1]
+    assert all((installed / "node_modules" / "puzzles-module" / name).is_file() for name in about["files"]), "a file is missing"
+
+
+@pytest.mark.needs("npm", "tsc")
+def test_types(installed):
+    """TypeScript checks a caller, and finds what is misspelt"""
+    (installed / "typed.ts").write_text(TYPED)
+    how = {"strict": True, "noEmit": True, "target": "es2022", "module": "node16", "moduleResolution": "node16", "types": []}
+    (installed / "tsconfig.json").write_text(json.dumps({"compilerOptions": how, "files": ["typed.ts"]}))
+    done = subprocess.run(["tsc", "--project", "tsconfig.json"], cwd=installed, capture_output=True, text=True, check=False, timeout=SECONDS)
+    assert done.returncode == 0, done.stdout
