@@ -8,7 +8,9 @@ ghost use Rattle.puzzles_c.specs.Calls.{NeedsRoom, Tells, asks_check, asks_each,
 use crate::asked::{game_numbered, numbers_refused};
 use crate::on_bytes::{READ_LIMIT, checked, graded, solved_each};
 use crate::output::{TOO_SMALL, put, put_reply};
-use commands::{BROKEN, GradeOptions, MOST_PERCENT, NO_MEMORY, Percent, Recipe, Stores, Task, generated};
+use commands::{
+    BROKEN, GradeOptions, MOST_PERCENT, NO_MEMORY, Percent, Recipe, Stores, Task, generated,
+};
 use maker_core::Limits;
 use std::alloc::Global;
 
