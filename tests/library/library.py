@@ -217,7 +217,7 @@ def symbols(tally, file):
     """What the library defines for others, and what it needs."""
     for flag, wanted in (("--defined-only", EXPORTS), ("--undefined-only", None)):
         lines = subprocess.run(["nm", "-D", flag, file], capture_output=True, text=True, check=True, timeout=STEP_SECONDS).stdout
-        names = {line.split()[-1].partition("@")[0] for line in lines.splitlines()}
+        names = {line.split()[-1].partition("@")[0] for line in lines.splitlines() if " A " not in line}  # which is the version's
         tally.same(f"nm {flag}", names if wanted else names - NEEDED, wanted or set())
         versions = {line.partition("@@")[2] for line in lines.splitlines() if " T " in line}
         tally.same(f"versions of nm {flag}", versions, {"PUZZLES_0.1"} if wanted else set())
