@@ -15,9 +15,12 @@ What was made is kept in BOOK.pdf.part until the book is there, so a run that wa
 It needs Debian's chromium and fonts-dejavu-core.
 Statuses: 0; 2 words refused; 6 a fault of reading or writing; 7 a program isn't there or fails, or too few puzzles; 130 stopped.
 """
+import argparse
 import sys
+from typing import Callable, Dict, List, Mapping, Optional, Sequence, Tuple
 
 from . import pages
+from .chapters import Chapter, Made
 from .journal import Journal
 from .layout import check
 from .._files import replace
@@ -30,18 +33,23 @@ from .pdf import print_pdf
 from .tables import check_table
 from ..ids import empty, read
 
+Solve = Callable[[str, str], List[str]]  # the rows of the only solution of an ID
+Contents = Sequence[Tuple[str, str, int]]  # headings, numbers of puzzles, pages
 MOST_TOLD = 10  # puzzles that are turned ones of others
 
 
-def entries_of(chapters, found):
+def entries_of(chapters: Sequence[Chapter], found: Sequence[Sequence[Made]]) -> List[Entry]:
     made = [(asked, one) for asked, some in zip(chapters, found) for one in some]
     return [Entry(number, asked, one, *one.puzzle(asked.game)) for number, (asked, one) in enumerate(made, 1)]
 
 
-def build(asked, entries, solve, solved_on=None, contents=()):
+def build(asked: argparse.Namespace, entries: Sequence[Entry], solve: Solve, solved_on: Optional[Mapping[int, int]] = None,
+          contents: Contents = ()) -> Tuple[pages.Book, Dict[int, int], Contents]:
     """The book; its contents and the pages of solutions are known after a first time."""
-    book, listed, texts = pages.Book(asked.title, asked.sheet, asked.texts), [], asked.texts
-    pages.add_front(book, len(entries), asked.front, {"subtitle": asked.subtitle, "author": asked.author, "picture": asked.picture})
+    book, texts = pages.Book(asked.title, asked.sheet, asked.texts), asked.texts
+    listed: List[Tuple[str, str, int]] = []
+    more = {"subtitle": asked.subtitle, "author": asked.author, "picture": asked.picture}
+    pages.add_front(book, len(entries), asked.front, more)
     pages.add_contents(book, contents, len(asked.games) + len(asked.chapters) + 1)
     for game in asked.games:
         if asked.right:
@@ -62,16 +70,17 @@ def build(asked, entries, solve, solved_on=None, contents=()):
     return book, solved_on, listed
 
 
-def check_sizes(asked):
+def check_sizes(asked: argparse.Namespace) -> None:
     """Tells before anything is made of what doesn't fit the paper."""
     for one in asked.chapters:
         for puzzle in [read(one.game, text) for text in one.ids] or [empty(one.game, one.size)]:
             check(asked.sheet, puzzle)
 
 
-def tell_turned(entries):
+def tell_turned(entries: Sequence[Entry]) -> None:
     """Tells of puzzles of files that are others turned or mirrored, or for Solo with other numbers."""
-    first, told = {}, 0
+    told = 0
+    first: Dict[Tuple[str, str], Entry] = {}
     for one in entries:
         if one.chapter.ids:
             other = first.setdefault((one.puzzle.game, form(one.puzzle.game, one.id)), one)
@@ -83,7 +92,7 @@ def tell_turned(entries):
         print(f"{told} puzzles of files are alike to others", file=sys.stderr)
 
 
-def main():
+def main() -> int:
     asked = words(__doc__)
     check_sizes(asked)
     beside = asked.book.with_suffix(".csv")
@@ -97,7 +106,7 @@ def main():
     entries = entries_of(asked.chapters, found)
     tell_turned(entries)
 
-    def solve(game, text):
+    def solve(game: str, text: str) -> List[str]:
         return program.ask("solve", "--", game, text)[1:]
 
     _, solved_on, contents = build(asked, entries, solve)
@@ -109,7 +118,7 @@ def main():
     return 0
 
 
-def run():
+def run() -> None:
     begin(main)
 
 

@@ -17,10 +17,11 @@ import argparse
 import itertools
 import pathlib
 import sys
+from typing import List, Optional, Sequence, Tuple
 
 from .._files import replace
 from .._work import Program, begin
-from .mending import Judge, mended
+from .mending import Judge, Rows, mended
 from .pixels import pixels
 from ..ids import MOST_SIDE, Puzzle, svg, written
 
@@ -28,24 +29,24 @@ SEVERAL, GAVE_UP = 3, 4
 MOST_CHANGES = 1000
 
 
-def runs(cells):
+def runs(cells: Sequence[bool]) -> List[int]:
     return [len(list(run)) for is_black, run in itertools.groupby(cells) if is_black]
 
 
-def pattern(rows):
+def pattern(rows: Rows) -> Puzzle:
     """The Pattern whose clues are those of a drawing."""
     clues = [runs(cells) for cells in [*zip(*rows), *rows]]
     width, height = len(rows[0]), len(rows)
     return Puzzle("pattern", f"{width}x{height}", width, height, cells=[""] * (width * height), clues=clues)
 
 
-def as_pbm(rows):
+def as_pbm(rows: Rows) -> bytes:
     """A drawing as a PBM in text."""
     lines = [" ".join("01"[cell] for cell in row) for row in rows]
     return "\n".join(["P1", f"{len(rows[0])} {len(rows)}", *lines, ""]).encode()
 
 
-def words():
+def words() -> argparse.Namespace:
     form = argparse.ArgumentParser(description=__doc__, formatter_class=argparse.RawDescriptionHelpFormatter)
     form.add_argument("--svg", type=pathlib.Path, help="a file for the puzzle, or for the drawing with its open cells")
     form.add_argument("--width", type=int, metavar="N", help="scale the drawing to so many cells")
@@ -63,7 +64,7 @@ def words():
     return asked
 
 
-def mend(asked, judge, rows):
+def mend(asked: argparse.Namespace, judge: Judge, rows: Rows) -> Tuple[Rows, Optional[List[int]]]:
     """The drawing with the changes that were needed, and its open cells."""
     rows, changes, left = mended(judge, rows, asked.changes)
     for place in changes:
@@ -73,7 +74,7 @@ def mend(asked, judge, rows):
     return rows, left
 
 
-def told(judge, puzzle, left):
+def told(judge: Judge, puzzle: Puzzle, left: Optional[List[int]]) -> Tuple[int, str]:
     """The status, and what is said."""
     if left is None:
         return GAVE_UP, "gave up: a larger --budget may tell"
@@ -82,7 +83,7 @@ def told(judge, puzzle, left):
     return 0, f"one: the drawing is the only solution; its grade is {judge.grade(puzzle)}"
 
 
-def main():
+def main() -> int:
     asked = words()
     rows = pixels(asked.drawing, asked.width, asked.dark)
     judge = Judge(Program(asked.program), asked.budget, pattern)
@@ -103,7 +104,7 @@ def main():
     return status
 
 
-def run():
+def run() -> None:
     begin(main)
 
 

@@ -4,7 +4,9 @@ import fcntl
 import hashlib
 import json
 import os
+import pathlib
 import threading
+from typing import Any, BinaryIO, Dict
 
 from .._work import DISK, Fault
 
@@ -12,10 +14,11 @@ from .._work import DISK, Fault
 class Journal:
     """A line of JSON for each seed, behind a first line that names the program and the words that a puzzle hangs on."""
 
-    def __init__(self, path, program, words):
+    def __init__(self, path: pathlib.Path, program: str, words: Dict[str, Any]):
         with open(program, "rb") as file:
             head = json.dumps([hashlib.sha256(file.read()).hexdigest(), words]).encode()
-        self.path, self.lock, self.kept, self.file = path, threading.Lock(), {}, locked(path)
+        self.path, self.lock, self.file = path, threading.Lock(), locked(path)
+        self.kept: Dict[str, Any] = {}
         first, *lines = self.file.read().split(b"\n")[:-1] or [b""]  # what has no end was cut off
         if first != head:
             self.file.truncate(0)
@@ -30,7 +33,7 @@ class Journal:
             end += len(line) + 1
         self.file.truncate(end)
 
-    def write(self, line):
+    def write(self, line: bytes) -> None:
         try:
             count = self.file.write(line + b"\n")
         except OSError as fault:
@@ -38,23 +41,23 @@ class Journal:
         if count != len(line) + 1:
             raise OSError(errno.ENOSPC, os.strerror(errno.ENOSPC), str(self.path))
 
-    def __contains__(self, key):
+    def __contains__(self, key: str) -> bool:
         return key in self.kept
 
-    def get(self, key):
+    def get(self, key: str) -> Any:
         return self.kept[key]
 
-    def keep(self, key, value):
+    def keep(self, key: str, value: Any) -> None:
         with self.lock:
             self.kept[key] = value
             self.write(json.dumps({key: value}).encode())
 
-    def remove(self):
+    def remove(self) -> None:
         os.remove(self.path)
         self.file.close()
 
 
-def locked(path):
+def locked(path: pathlib.Path) -> BinaryIO:
     """The file, which no other run has."""
     while True:
         file = open(path, "a+b", buffering=0)

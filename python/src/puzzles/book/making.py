@@ -5,11 +5,13 @@ import contextlib
 import functools
 import itertools
 import os
+from typing import Callable, Deque, Generator, Iterable, Iterator, List, Optional, Sequence, Set, Tuple, TypeVar
 
 from . import levels
-from .chapters import Made
+from .chapters import Chapter, Made, Seed
+from .journal import Journal
 from .._effort import effort
-from .._work import REFUSED, Fault
+from .._work import REFUSED, Bar, Fault, Program
 from ..ids import read, written
 from .thinning import thinned
 
@@ -17,30 +19,32 @@ SEEDS_FOR_ONE = 1000  # that are tried for each puzzle, at most
 BARREN_SEEDS = 64  # after which a chapter is given up, if none of them made a puzzle of any grade
 AHEAD = 16  # seeds
 CROSSED_TRIALS = 1000  # with which the solved grid of a Solo X is made
+One = TypeVar("One")
+OfSeeds = Generator[Tuple[int, Optional[Made]], None, None]  # each seed with its puzzle, if it has one
 
 
 class Maker:
     """Makes puzzles of seeds. The journal keeps what was made."""
 
-    def __init__(self, program, is_symmetric, journal):
+    def __init__(self, program: Program, is_symmetric: bool, journal: Journal):
         self.program, self.is_symmetric, self.journal = program, is_symmetric, journal
 
-    def make(self, asked, seed):
+    def make(self, asked: Chapter, seed: int) -> Optional[Made]:
         """The puzzle that a seed gives to a chapter; None if it gives none."""
         key = f"{asked.game} {asked.size} {asked.level} {seed}"
         if key not in self.journal:
             self.journal.keep(key, self.made(asked, seed))
         found = self.journal.get(key)
-        return found and Made(seed, *found)
+        return Made(seed, *found) if found else None
 
-    def taken(self, game, text, seed):
+    def taken(self, game: str, text: str, seed: Seed) -> Made:
         """A puzzle of a file, which must have one solution."""
         verdict, *answer = self.program.ask("solve", "--", game, text)
         if verdict != "one":
             raise Fault(f"no puzzle for a book, since `solve` answers {verdict}: {text}", REFUSED)
         return Made(seed, text, answer, self.program.ask("grade", "--", game, text)[0], 0)
 
-    def made(self, asked, seed):
+    def made(self, asked: Chapter, seed: int) -> Optional[Tuple[str, List[str], str, float]]:
         ask, is_crossed = self.program.ask, asked.size.endswith("x")
         budget = CROSSED_TRIALS if is_crossed else levels.budget(asked.level, asked.game)
         lines = ask("generate", f"--budget={budget}", f"--seed={seed}", "--", asked.game, asked.size)
@@ -54,24 +58,25 @@ class Maker:
         grade, *trace = ask("grade", "--trace", "--", asked.game, text)
         return text, answer, grade, effort(read(asked.game, text), trace)
 
-    def test(self, asked):
+    def test(self, asked: Chapter) -> Callable[[str], bool]:
         """Tells of an ID of Solo, from which clues were taken, whether they may go."""
-        words, wanted = ("solve", f"--budget={levels.budget(asked.level, asked.game)}"), "one"
+        words, wanted = ["solve", f"--budget={levels.budget(asked.level, asked.game)}"], "one"
         if asked.is_large_and_easy():
-            words, wanted = ("grade", "--budget=0"), "singles"
+            words, wanted = ["grade", "--budget=0"], "singles"
         return lambda text: self.program.ask(*words, "--", "solo", text)[0] == wanted
 
 
-def fill(maker, chapters, first, bar):
+def fill(maker: Maker, chapters: Sequence[Chapter], first: int, bar: Bar) -> List[List[Made]]:
     """The puzzles of each chapter: of its file, or by ascending seeds. Chapters take turns at these, so no grid comes twice."""
-    found, done, turns, step = [], 0, itertools.count(first), sum(not one.ids for one in chapters)
+    found: List[List[Made]] = []
+    done, turns, step = 0, itertools.count(first), sum(not one.ids for one in chapters)
     chosen = {(one.game, text) for one in chapters for text in one.ids}
     with concurrent.futures.ThreadPoolExecutor(os.cpu_count()) as pool:
         try:
             for asked in chapters:
                 tell = functools.partial(told, bar, done)
                 if asked.ids:
-                    seeds = asked.seeds or [""] * len(asked.ids)
+                    seeds: Sequence[Seed] = asked.seeds or [""] * len(asked.ids)
                     found.append(list(progress(pool.map(functools.partial(maker.taken, asked.game), asked.ids, seeds), tell)))
                 else:
                     start = next(turns)
@@ -87,22 +92,23 @@ def fill(maker, chapters, first, bar):
     return found
 
 
-def told(bar, before, count, seed=None):
+def told(bar: Bar, before: int, count: int, seed: Optional[int] = None) -> None:
     bar.tell(before + count, "" if seed is None else f", seed {seed}")
 
 
-def progress(made, tell):
+def progress(made: Iterable[One], tell: Callable[[int], None]) -> Iterator[One]:
     for count, one in enumerate(made, 1):
         tell(count)
         yield one
 
 
-def in_order(maker, pool, asked, seeds):
+def in_order(maker: Maker, pool: concurrent.futures.ThreadPoolExecutor, asked: Chapter, seeds: Iterable[int]) -> OfSeeds:
     """Each seed with its puzzle. Some are made ahead, so that all cores work."""
-    seeds, ahead = iter(seeds), collections.deque()
+    left = iter(seeds)
+    ahead: Deque["Tuple[int, concurrent.futures.Future[Optional[Made]]]"] = collections.deque()
     try:
         while True:
-            ahead.extend((seed, pool.submit(maker.make, asked, seed)) for seed in itertools.islice(seeds, AHEAD - len(ahead)))
+            ahead.extend((seed, pool.submit(maker.make, asked, seed)) for seed in itertools.islice(left, AHEAD - len(ahead)))
             if not ahead:
                 return
             seed, future = ahead.popleft()
@@ -112,14 +118,15 @@ def in_order(maker, pool, asked, seeds):
             future.cancel()
 
 
-def fill_one(asked, made, tell, chosen):
+def fill_one(asked: Chapter, made: OfSeeds, tell: Callable[[int, int], None], chosen: Set[Tuple[str, str]]) -> List[Made]:
     """The puzzles of a chapter, of the seeds in `made`, and none of those that files have."""
-    taken, is_barren, wanted = [], True, asked.needed()
+    taken: List[Made] = []
+    is_barren, wanted = True, asked.needed()
     with contextlib.closing(made):
         for tried, (seed, one) in enumerate(made, 1):
             is_barren = is_barren and not one
-            is_new = one and levels.takes(asked.level, asked.game, one.grade) and (asked.game, one.id) not in chosen
-            taken += [one] if is_new else []
+            if one and levels.takes(asked.level, asked.game, one.grade) and (asked.game, one.id) not in chosen:
+                taken.append(one)
             tell(asked.count * len(taken) // wanted, seed)
             if len(taken) == wanted:
                 return asked.chosen(taken)

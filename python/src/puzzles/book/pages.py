@@ -3,16 +3,21 @@ import html
 import itertools
 import pathlib
 import string
+from typing import Callable, Dict, Iterable, List, Mapping, Optional, Sequence, Set, Tuple
 
 from . import layout
-from .layout import places, shelves, solved_cell
-from ..ids import Room, read, read_grid, svg
+from .chapters import Chapter
+from .layout import Sheet, places, shelves, solved_cell
+from .outputs import Entry
+from .texts import Texts
+from ..ids import Puzzle, Room, read, read_grid, svg
 
 CONTENTS_HEIGHT = 7.2  # of a line, in millimetres
 RULES_ROOM = 225  # millimetres of a page that has all rules of a game, if grades are told
 BREAK = "<hr>"  # between two pages of a file
 # Front matter is text and pictures: no script runs, and no other page comes in.
-POLICY = """<meta http-equiv="Content-Security-Policy" content="default-src 'none'; style-src 'unsafe-inline'; img-src data: file:">"""
+POLICY = ("""<meta http-equiv="Content-Security-Policy" """
+          """content="default-src 'none'; style-src 'unsafe-inline'; img-src data: file:">""")
 EXAMPLES = {"solo": "2x2:1b4i3_2a", "pattern": "5x5:2/4/4/4/2/1.1/5/5/3/1", "lightup": "5x5:2c0cBfB01c2a1B",
             "tents": "5x5:ca_bgdb,1,2,1,1,1,3,0,1,1,1"}
 STYLE = pathlib.Path(__file__).resolve().with_name("book.css")
@@ -21,50 +26,53 @@ STYLE = pathlib.Path(__file__).resolve().with_name("book.css")
 class Book:
     """Pages by number, from 1 on. The first is a right one."""
 
-    def __init__(self, title, sheet, texts):
-        self.title, self.sheet, self.texts, self.pages, self.heads = title, sheet, texts, [], set()
+    def __init__(self, title: str, sheet: Sheet, texts: Texts):
+        self.title, self.sheet, self.texts = title, sheet, texts
+        self.pages: List[str] = []
+        self.heads: Set[str] = set()
 
-    def add(self, words, foot="", has_number=True):
+    def add(self, words: str, foot: str = "", has_number: bool = True) -> int:
         number = len(self.pages) + 1
         end = f"<p class=foot><span>{foot}</span><span>{number}</span></p>" if number > 1 and has_number else ""
         side = "right" if number % 2 else "left"
         self.pages.append(f"<section id=page-{number} class={side}>{words}{end}</section>")
         return number
 
-    def head(self, words, more=""):
+    def head(self, words: str, more: str = "") -> str:
         """The head of a page. It is a heading where its words come first, so that the outline has it once."""
         tag, end = ("p class=head", "p") if words in self.heads else ("h2", "h2")
         self.heads.add(words)
         return f"<{tag}>{words}{more and f' <small>{more}</small>'}</{end}>"
 
-    def begin_right(self):
+    def begin_right(self) -> None:
         """Leaves a left page blank, so that the next one is a right one."""
         if len(self.pages) % 2:
             self.add("", has_number=False)
 
-    def fill(self, multiple):
+    def fill(self, multiple: int) -> None:
         """Adds blank pages, so that their number is a multiple."""
         while len(self.pages) % multiple:
             self.add("", has_number=False)
 
-    def html(self):
+    def html(self) -> str:
         paper = self.sheet.paper
         style = string.Template(STYLE.read_text(encoding="utf-8")).substitute(
             width=paper.width, height=paper.height, side=paper.side, inner=paper.side + self.sheet.gutter, text=paper.text,
             drop=paper.height / 5, room=self.sheet.height, top=layout.TOP, bottom=layout.BOTTOM, heading=layout.HEADING,
             gap=layout.GAP, solved_gap=layout.SOLVED_GAP, label=layout.LABEL, caption=layout.CAPTION)
-        return (f'<!doctype html><html lang="{self.texts["language"]}"><meta charset="utf-8">{POLICY}<title>{html.escape(self.title)}'
-                f"</title><style>{style}</style><body>{''.join(self.pages)}")
+        return (f'<!doctype html><html lang="{self.texts["language"]}"><meta charset="utf-8">{POLICY}'
+                f"<title>{html.escape(self.title)}</title><style>{style}</style><body>{''.join(self.pages)}")
 
-    def name(self, puzzle):
-        return self.texts["names"]["solo x" if puzzle.is_crossed else puzzle.game]
+    def name(self, puzzle: Puzzle) -> str:
+        return str(self.texts["names"]["solo x" if puzzle.is_crossed else puzzle.game])
 
-    def drawing(self, puzzle, cells, cell, caption, below="", is_small=True):
+    def drawing(self, puzzle: Puzzle, cells: Optional[List[str]], cell: float, caption: str, below: str = "",
+                is_small: bool = True) -> str:
         drawn = svg(puzzle, cells, cell, name=f"{html.unescape(self.name(puzzle))} {puzzle.size}", is_small=is_small)
         return f"<figure><figcaption>{caption}</figcaption>{drawn}{below}</figure>"
 
 
-def add_front(book, count, front, more):
+def add_front(book: Book, count: int, front: str, more: Mapping[str, str]) -> None:
     """The first page, and those of a file of HTML. `more` has what else stands on the first: subtitle, picture, author."""
     texts = book.texts
     counted = texts["one puzzle"] if count == 1 else texts["puzzles"].format(count=count)
@@ -75,7 +83,7 @@ def add_front(book, count, front, more):
         book.add(part, has_number=False)
 
 
-def add_contents(book, listed, count):
+def add_contents(book: Book, listed: Sequence[Tuple[str, str, int]], count: int) -> None:
     """Pages for so many lines of contents: heading, numbers of puzzles, page."""
     rows = [f"<tr><td><a href=#page-{page}>{name}</a><td>{numbers}<td><a href=#page-{page}>{page}</a>"
             for name, numbers, page in listed] or [""] * count
@@ -84,7 +92,7 @@ def add_contents(book, listed, count):
         book.add(f"{book.head(book.texts['contents'])}<table class=contents>{''.join(rows[first:first + step])}</table>")
 
 
-def add_rules(book, game, solve, is_crossed):
+def add_rules(book: Book, game: str, solve: Callable[[str, str], List[str]], is_crossed: bool) -> int:
     """The rules of a game, on one page or two, those of the diagonals where the book has some. `solve` gives the rows of the only
     solution of an ID."""
     texts, puzzle = book.texts, read(game, EXAMPLES[game])
@@ -104,11 +112,11 @@ def add_rules(book, game, solve, is_crossed):
     return number
 
 
-def how(texts, game):
-    return texts["how"].format(name=texts["names"][game])
+def how(texts: Texts, game: str) -> str:
+    return str(texts["how"].format(name=texts["names"][game]))
 
 
-def grades(texts, game):
+def grades(texts: Texts, game: str) -> str:
     """What the grades of a game mean."""
     search, meant = texts["grades"]["search"].format(trials=4), texts["meaning of a search"].format(trials=4)
     rows = [*((texts["grades"][name], words) for name, words in texts["meanings"][game].items()), (search, meant)]
@@ -117,20 +125,20 @@ def grades(texts, game):
             f"<p>{texts['meanings of levels'][game]}</p>")
 
 
-def heading(book, asked, puzzle):
+def heading(book: Book, asked: Chapter, puzzle: Puzzle) -> str:
     """What a chapter is called; the size of Solo counts blocks."""
     words = {"name": book.name(puzzle), "size": asked.size, "width": puzzle.width, "height": puzzle.height,
              "level": book.texts["levels"][asked.level], "file": html.escape(asked.title)}
     kind = "heading of a file" if asked.title else "heading of any" if asked.level == "any" else "heading"
-    return book.texts[kind].format(**words)
+    return str(book.texts[kind].format(**words))
 
 
-def grade_of(texts, grade):
+def grade_of(texts: Texts, grade: str) -> str:
     word, _, trials = grade.partition(" ")
-    return texts["grades"][word].format(trials=trials)
+    return str(texts["grades"][word].format(trials=trials))
 
 
-def add_chapter(book, asked, entries, page_of_solution):
+def add_chapter(book: Book, asked: Chapter, entries: Sequence[Entry], page_of_solution: Mapping[int, int]) -> None:
     """The pages of a chapter; each puzzle's page is kept in its entry."""
     texts, puzzle = book.texts, entries[0].puzzle
     at = places(book.sheet, [entry.puzzle for entry in entries], [entry.id for entry in entries])
@@ -148,7 +156,7 @@ def add_chapter(book, asked, entries, page_of_solution):
                  foot(texts, {page_of_solution.get(entry.number, 0) for entry in some}))
 
 
-def figure(book, entry, cell):
+def figure(book: Book, entry: Entry, cell: float) -> str:
     """A puzzle with its number, and what else stands beside it."""
     if book.sheet.is_bare:
         return book.drawing(entry.puzzle, None, cell, f"<b>{entry.number}</b>")
@@ -157,24 +165,25 @@ def figure(book, entry, cell):
     return book.drawing(entry.puzzle, None, cell, f"<b>{entry.number}</b> · {grade_of(book.texts, entry.grade)}", below)
 
 
-def foot(texts, pages):
+def foot(texts: Texts, pages: Iterable[int]) -> str:
     """Where the solutions of a page are."""
     links = [f"<a href=#page-{page}>{page}</a>" for page in sorted(pages)]
     if len(links) == 1:
-        return texts["page of solutions"].format(page=links[0])
-    return texts["pages of solutions"].format(pages=f"{', '.join(links[:-1])} {texts['and']} {links[-1]}")
+        return str(texts["page of solutions"].format(page=links[0]))
+    return str(texts["pages of solutions"].format(pages=f"{', '.join(links[:-1])} {texts['and']} {links[-1]}"))
 
 
-def numbered(texts, numbers):
+def numbered(texts: Texts, numbers: Sequence[int]) -> str:
     """The numbers of puzzles that follow one another."""
-    return f"{numbers[0]}" if len(numbers) == 1 else texts["range"].format(first=numbers[0], last=numbers[-1])
+    return str(numbers[0]) if len(numbers) == 1 else str(texts["range"].format(first=numbers[0], last=numbers[-1]))
 
 
-def add_solutions(book, entries):
+def add_solutions(book: Book, entries: Sequence[Entry]) -> Dict[int, int]:
     """The solutions; gives the page of each by the puzzle's number."""
     cells = [solved_cell(book.sheet, entry.puzzle) for entry in entries]
     rooms = [Room(entry.puzzle, True) for entry in entries]
-    sizes, found = [(room.width * cell, room.height * cell) for room, cell in zip(rooms, cells)], {}
+    sizes = [(room.width * cell, room.height * cell) for room, cell in zip(rooms, cells)]
+    found: Dict[int, int] = {}
     for rows in shelves(book.sheet, sizes):
         drawn = [[book.drawing(entries[at].puzzle, entries[at].cells, cells[at], f"<b>{entries[at].number}</b>") for at in row]
                  for row in rows]

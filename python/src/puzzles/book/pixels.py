@@ -1,5 +1,7 @@
 """Reads a picture as the cells of a drawing. It needs Debian's python3-pil."""
+import pathlib
 import sys
+from typing import Any, List, Optional
 
 from .._work import REFUSED, Fault
 from ..ids import MOST_SIDE
@@ -8,7 +10,7 @@ MOST_PIXELS = 10_000  # each way, of a picture that is scaled
 WHITE, HALF = 3 * 255, 50  # sum of the colours, and per cent of it
 
 
-def pixels(path, width=None, dark=None):
+def pixels(path: pathlib.Path, width: Optional[int] = None, dark: Optional[float] = None) -> List[List[bool]]:
     """The rows of a drawing: whether each cell is black. Of more than two colours if they are scaled, or told apart by `dark`."""
     picture = on_paper(opened(path, MOST_SIDE if width is None else MOST_PIXELS))
     if width is not None:
@@ -21,7 +23,7 @@ def pixels(path, width=None, dark=None):
     return [cells[at:at + picture.width] for at in range(0, len(cells), picture.width)]
 
 
-def opened(path, most):
+def opened(path: pathlib.Path, most: int) -> Any:
     """The picture of a file, with at most so many pixels each way."""
     try:
         from PIL import Image
@@ -39,7 +41,7 @@ def opened(path, most):
     raise Fault(f"{path} has {size[0]}x{size[1]} pixels, and at most {most} each way are taken{more}", REFUSED)
 
 
-def on_paper(picture):
+def on_paper(picture: Any) -> Any:
     """The picture on white, where it is transparent."""
     from PIL import Image
     paper = Image.new("RGBA", picture.size, "white")
@@ -47,7 +49,7 @@ def on_paper(picture):
     return paper.convert("RGB")
 
 
-def scaled(picture, width, path):
+def scaled(picture: Any, width: int, path: pathlib.Path) -> Any:
     from PIL import Image
     height = max(1, round(picture.height * width / picture.width))
     if height > MOST_SIDE:
@@ -55,10 +57,10 @@ def scaled(picture, width, path):
     return picture.resize((width, height), Image.BOX)
 
 
-def between(picture, path):
+def between(picture: Any, path: pathlib.Path) -> float:
     """A shade between the two of a drawing, as a sum of its colours."""
     colours = picture.getcolors(2)
     if not colours:
         raise Fault(f"{path} has more than two colours: --dark P takes the darker ones for black", REFUSED)
-    shades = [sum(colour) for _, colour in colours]
+    shades: List[int] = [sum(colour) for _, colour in colours]
     return sum(shades) / 2 if len(shades) == 2 else WHITE / 2

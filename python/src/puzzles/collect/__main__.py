@@ -24,6 +24,7 @@ import multiprocessing
 import os
 import signal
 import sys
+from typing import Any, Callable, ContextManager, Dict, Iterable, List, Optional
 
 from .forms import form
 from .grading import ID_SECONDS, Grader, Measurer
@@ -31,7 +32,7 @@ from .._effort import effort
 from .._work import REFUSED, Bar, Fault, Program, begin
 from .listing import print_rows
 from ..ids import GAMES, Refused, lines, read, written
-from .table import NO_GRADES, RULE_SETS, Table
+from .table import NO_GRADES, RULE_SETS, Met, Table
 
 STEP = 1000  # lines in a transaction
 MARK = b"\xef\xbb\xbf"  # with which some programs begin a file
@@ -40,7 +41,7 @@ WITH_PROGRAM = ("add", "grade", "measure")
 OPEN, TO_MEASURE, WITHOUT_FORM = "verdict IS NULL", "verdict = 'one' AND effort IS NULL", "form IS NULL"
 
 
-def add(asked, table):
+def add(asked: argparse.Namespace, table: Table) -> int:
     """Takes the lines of a file in, from where the table left off."""
     refused = 0
     with open(asked.file, "rb") as file:
@@ -66,7 +67,7 @@ def add(asked, table):
     return REFUSED if refused else 0
 
 
-def row(game, line):
+def row(game: str, line: bytes) -> Met:
     """What a line adds to the table: ID, size and clues; or the fault that it has. An empty line and a remark have neither."""
     line = line.removeprefix(MARK).strip(b" \t\r")
     if not line or line.startswith(b"#"):
@@ -78,7 +79,7 @@ def row(game, line):
     return (written(puzzle), puzzle.size, puzzle.count_clues()), None
 
 
-def all_done(bar, parts, keep):
+def all_done(bar: Bar, parts: Iterable[List[Any]], keep: Callable[[List[Any]], None]) -> None:
     """Keeps each part of what is to be done, as it comes."""
     done = 0
     try:
@@ -90,7 +91,7 @@ def all_done(bar, parts, keep):
         bar.end()
 
 
-def grade(asked, table):
+def grade(asked: argparse.Namespace, table: Table) -> None:
     """Grades what has no verdict, a part at a time."""
     bar, program = Bar("graded", table.count(asked.game, OPEN)), Program(asked.program, ID_SECONDS)
     grader = Grader(program, asked.game, asked.budget, asked.library)
@@ -98,7 +99,7 @@ def grade(asked, table):
         all_done(bar, parts, functools.partial(table.grade, asked.game))
 
 
-def measure(asked, table):
+def measure(asked: argparse.Namespace, table: Table) -> None:
     """Counts the steps of the deduction of what has one solution."""
     bar, program = Bar("measured", table.count(asked.game, TO_MEASURE)), Program(asked.program, ID_SECONDS)
     measurer = Measurer(program, asked.game, lambda game, text, trace: effort(read(game, text), trace))
@@ -106,13 +107,13 @@ def measure(asked, table):
         all_done(bar, parts, functools.partial(table.set, "effort", asked.game))
 
 
-def leave_signals():
+def leave_signals() -> None:
     """A process of a pool ends when its parent ends it, and not by Ctrl-C."""
     signal.signal(signal.SIGINT, signal.SIG_IGN)
     signal.signal(signal.SIGTERM, signal.SIG_DFL)
 
 
-def processes():
+def processes() -> "ContextManager[Any]":
     """Processes for all cores. Where the machine has no shared memory for them, as some containers, one core does it all."""
     try:
         return multiprocessing.Pool(os.cpu_count(), leave_signals)
@@ -121,7 +122,7 @@ def processes():
         return contextlib.nullcontext()
 
 
-def find_forms(asked, table):
+def find_forms(asked: argparse.Namespace, table: Table) -> None:
     """Finds the forms of puzzles, on all cores."""
     bar, ids = Bar("forms", table.count(asked.game, WITHOUT_FORM)), table.ids(asked.game, WITHOUT_FORM)
     parts, find = iter(lambda: list(itertools.islice(ids, STEP)), []), functools.partial(form, asked.game)
@@ -135,7 +136,7 @@ def find_forms(asked, table):
     print("{:,} forms are of {:,} puzzles: the view `doubles` has them".format(*found))
 
 
-def take_grades(asked, table):
+def take_grades(asked: argparse.Namespace, table: Table) -> None:
     """Takes in the answers that a job wrote, line by line beside the IDs that it was given."""
     taken = 0
     with open(asked.ids, "rb") as ids, open(asked.answers, "rb") as given:
@@ -149,12 +150,12 @@ def take_grades(asked, table):
                             "before are taken", REFUSED)
 
 
-def forget(asked, table):
+def forget(asked: argparse.Namespace, table: Table) -> None:
     refusals, puzzles = table.forget(asked.file, asked.game)
     print(f"{puzzles:,} puzzles and {refusals:,} refusals are gone; puzzles that were met again stay")
 
 
-def words():
+def words() -> argparse.Namespace:
     form_of_words = argparse.ArgumentParser(description=__doc__, formatter_class=argparse.RawDescriptionHelpFormatter)
     does = form_of_words.add_subparsers(dest="does", required=True, metavar="|".join(COMMANDS))
     for name in COMMANDS:
@@ -181,7 +182,7 @@ def words():
     return asked
 
 
-def list_words(one):
+def list_words(one: argparse.ArgumentParser) -> None:
     one.add_argument("--grade", choices=(*RULE_SETS, "search", *NO_GRADES), help="of this grade or verdict alone (one solution)")
     one.add_argument("--most", type=int, default=2**63 - 1, help="so many at most (all)")
     one.add_argument("--apart", action="store_true", help="of puzzles with one form the first alone")
@@ -190,7 +191,7 @@ def list_words(one):
     kinds.add_argument("--json", dest="kind", action="store_const", const="json", help="all columns as JSON, an object a line")
 
 
-def add_and_grade(asked, table):
+def add_and_grade(asked: argparse.Namespace, table: Table) -> int:
     asked.source = asked.source or asked.file
     status = add(asked, table)
     if not asked.later:
@@ -198,20 +199,21 @@ def add_and_grade(asked, table):
     return status
 
 
-def print_open(asked, table):
+def print_open(asked: argparse.Namespace, table: Table) -> None:
     for text in table.ids(asked.game, OPEN):
         print(text)
 
 
-def print_list(asked, table):
+def print_list(asked: argparse.Namespace, table: Table) -> None:
     print_rows(table.listed(asked.game, asked.grade, asked.most, asked.apart), asked.kind)
 
 
-COMMANDS = {"add": add_and_grade, "grade": grade, "measure": measure, "forms": find_forms, "list": print_list, "forget": forget,
+COMMANDS: Dict[str, Callable[[argparse.Namespace, Table], Optional[int]]] = {
+    "add": add_and_grade, "grade": grade, "measure": measure, "forms": find_forms, "list": print_list, "forget": forget,
             "open": print_open, "grades": take_grades}
 
 
-def main():
+def main() -> int:
     asked = words()
     with Table(asked.table) as table:
         status = COMMANDS[asked.does](asked, table)
@@ -220,7 +222,7 @@ def main():
     return status or 0
 
 
-def run():
+def run() -> None:
     begin(main)
 
 

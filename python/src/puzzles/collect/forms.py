@@ -4,20 +4,21 @@ Two puzzles have one form exactly if they are one another turned or mirrored; in
 columns, bands or stacks in another order. Solo X is turned, mirrored and renumbered alone.
 """
 import dataclasses
+from typing import Any, Dict, Iterator, List, Optional, Sequence
 
-from ..ids import read, written
+from ..ids import Puzzle, read, written
 
 MOST_LEAVES = 500  # orders of rows and columns that are tried; a Solo with more of them is turned and renumbered alone
 
 
-def form(game, text):
+def form(game: str, text: str) -> str:
     """The form of a written ID."""
     puzzle = read(game, text)
-    found = game == "solo" and not puzzle.is_crossed and arranged(puzzle)
+    found = arranged(puzzle) if game == "solo" and not puzzle.is_crossed else None
     return found or min(map(written, turned(puzzle)))
 
 
-def turned(puzzle):
+def turned(puzzle: Puzzle) -> Iterator[Puzzle]:
     """The puzzle in the eight ways to turn and to mirror it. Numbers of Solo come in the order 1, 2, .."""
     grid = [puzzle.cells[at:at + puzzle.width] for at in range(0, len(puzzle.cells), puzzle.width)]
     columns, rows = puzzle.clues[:puzzle.width], puzzle.clues[puzzle.width:]
@@ -34,13 +35,13 @@ def turned(puzzle):
                                      block=puzzle.block and puzzle.block[::-1], size=crossed_over(puzzle))
 
 
-def crossed_over(puzzle):
+def crossed_over(puzzle: Puzzle) -> str:
     """The size with columns and rows in each other's place."""
     first, second, *more = puzzle.size.split("x")
     return "x".join([second, first, *more])
 
 
-def shaped(puzzle, grid, clues):
+def shaped(puzzle: Puzzle, grid: Sequence[Sequence[str]], clues: List[List[int]]) -> Puzzle:
     """A puzzle of these rows of cells."""
     cells = [sign for line in grid for sign in line]
     if puzzle.block:
@@ -49,9 +50,9 @@ def shaped(puzzle, grid, clues):
     return dataclasses.replace(puzzle, cells=cells, clues=clues)
 
 
-def arranged(puzzle):
+def arranged(puzzle: Puzzle) -> Optional[str]:
     """The form of a Solo over all orders of its lines; None if too many of them look alike."""
-    leaves = []
+    leaves: List[str] = []
     try:
         Lines(puzzle).arrange(leaves)
     except Alike:
@@ -69,9 +70,9 @@ class Lines:
     Lines are rows first, then columns; `chutes` are their bands and stacks. Each given is a row, a column and a number.
     """
 
-    def __init__(self, puzzle):
+    def __init__(self, puzzle: Puzzle):
         self.puzzle, side = puzzle, puzzle.width
-        across, down = puzzle.block
+        across, down = puzzle.block or (puzzle.width, 1)  # a Solo has blocks
         self.givens = [(place // side, side + place % side, int(sign)) for place, sign in enumerate(puzzle.cells) if sign]
         self.blocks = [row // down * side + (column - side) // across for row, column, _ in self.givens]
         self.chutes = [[*range(at, at + down)] for at in range(0, side, down)]
@@ -79,7 +80,7 @@ class Lines:
         self.colours = [int(down > across)] * side + [int(across > down)] * side
         self.is_square = across == down
 
-    def arrange(self, leaves):
+    def arrange(self, leaves: List[str]) -> None:
         """Adds the ID of each order in which colours, once they are as fine as can be, put the lines."""
         self.refine()
         alike = self.alike()
@@ -94,16 +95,18 @@ class Lines:
             self.arrange(leaves)
         self.colours = colours
 
-    def refine(self):
+    def refine(self) -> None:
         """Makes colours finer, until they stay: by numbers, blocks, crossing lines and neighbours of their chutes."""
         numbers, count = [0] * (self.puzzle.width + 1), 0
         while True:
-            lines, blocks, values = ({} for _ in range(3))
+            lines: Dict[int, List[int]] = {}
+            values: Dict[int, List[int]] = {}
+            there_of: Dict[int, List[int]] = {}
             cells = ranks([(*sorted((self.colours[row], self.colours[column])), numbers[value])
                            for row, column, value in self.givens])
             for block, colour in zip(self.blocks, cells):
-                blocks.setdefault(block, []).append(colour)
-            blocks = {block: tuple(sorted(there)) for block, there in blocks.items()}
+                there_of.setdefault(block, []).append(colour)
+            blocks = {block: tuple(sorted(there)) for block, there in there_of.items()}
             cells = ranks([(colour, blocks[block]) for block, colour in zip(self.blocks, cells)])
             for (row, column, value), colour in zip(self.givens, cells):
                 lines.setdefault(row, []).append(colour)
@@ -120,20 +123,21 @@ class Lines:
                 return
             count = found
 
-    def alike(self):
+    def alike(self) -> Optional[List[int]]:
         """Lines of one colour that have givens: the first such ones. Empty lines of a chute may stand in any order."""
-        filled, classes = {line for row, column, _ in self.givens for line in (row, column)}, {}
+        filled = {line for row, column, _ in self.givens for line in (row, column)}
+        classes: Dict[int, List[int]] = {}
         for line, colour in enumerate(self.colours):
             classes.setdefault(colour, []).append(line)
         return next((there for _, there in sorted(classes.items()) if len(there) > 1 and filled.intersection(there)
                      and not self.are_turned(there)), None)
 
-    def are_turned(self, lines):
+    def are_turned(self, lines: Sequence[int]) -> bool:
         """Whether they are but a row and a column, so that the grid may be read in two ways."""
         side = self.puzzle.width
         return self.is_square and len(lines) == 2 and lines[0] < side <= lines[1]
 
-    def written(self):
+    def written(self) -> List[str]:
         """The IDs of the order of colours: one, or two if rows and columns have the same ones."""
         side = self.puzzle.width
         chutes = sorted(sorted((self.colours[line], line) for line in chute) for chute in self.chutes)
@@ -143,19 +147,20 @@ class Lines:
         ways = [(rows, columns)] if first <= second else []
         return [self.written_by(*way) for way in [*ways, *([(columns, rows)] if second <= first else [])]]
 
-    def written_by(self, rows, columns):
+    def written_by(self, rows: Sequence[int], columns: Sequence[int]) -> str:
         """The ID with these lines as rows and columns, in this order."""
         puzzle, side = self.puzzle, self.puzzle.width
         if rows[0] >= side and not self.is_square:
-            puzzle = dataclasses.replace(puzzle, block=puzzle.block[::-1], size=crossed_over(puzzle))
+            puzzle = dataclasses.replace(puzzle, block=puzzle.block and puzzle.block[::-1], size=crossed_over(puzzle))
         values = {(min(row, column), max(row, column)): str(value) for row, column, value in self.givens}
         grid = [[values.get((min(row, column), max(row, column)), "") for column in columns] for row in rows]
         return written(shaped(puzzle, grid, []))
 
 
-def ranks(keys):
+def ranks(keys: Sequence[Any]) -> List[int]:
     """A number for each key, the smaller the smaller."""
-    numbers, last = [0] * len(keys), None
+    numbers = [0] * len(keys)
+    last: Optional[int] = None
     for at in sorted(range(len(keys)), key=keys.__getitem__):
         rank = 0 if last is None else numbers[last] + (keys[at] != keys[last])
         numbers[at], last = rank, at

@@ -10,7 +10,7 @@ import itertools
 import os
 import pathlib
 import sys
-from typing import Callable, Iterator, List, Optional, Sequence, Set, Tuple, TypeVar
+from typing import Callable, Generator, Iterator, List, Optional, Sequence, Set, Tuple, TypeVar
 
 from .._work import Fault, Late, Program
 
@@ -33,7 +33,7 @@ class Grader:
         if library and self.run([*BY_LIBRARY, library, "pattern", "0"], ["5x1:1/1//1/1/2.2"]) != ["lines"]:
             raise Fault(f"no library of puzzles, as library/build.py makes it: {library}")
 
-    def answers(self, ids: Iterator[str]) -> Iterator[Answers]:
+    def answers(self, ids: Iterator[str]) -> Generator[Answers, None, None]:
         """Parts of the IDs, each with its answer, as they come. One that takes longer than its clock is answered `clock`."""
         yield from on_all_cores(self.program, self.answer_part, ids, LIBRARY_PART if self.library else PART)
 
@@ -87,7 +87,7 @@ class Measurer:
     def __init__(self, program: Program, game: str, effort: Callable[[str, str, List[str]], float]):
         self.program, self.game, self.effort = program, game, effort
 
-    def measures(self, ids: Iterator[str]) -> Iterator[List[Tuple[str, Optional[float]]]]:
+    def measures(self, ids: Iterator[str]) -> Generator[List[Tuple[str, Optional[float]]], None, None]:
         """Parts of the IDs, each with its effort; None where the clock ends the count."""
         yield from on_all_cores(self.program, self.measure_part, ids, PART)
 

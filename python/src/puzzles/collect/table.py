@@ -1,6 +1,7 @@
 """The table of a collection. Each call that changes it is one transaction."""
 import hashlib
 import sqlite3
+from typing import Any, Iterable, Iterator, List, Optional, Sequence, Tuple
 
 from .._work import DISK, REFUSED, Fault
 
@@ -32,11 +33,15 @@ PASSED = ""  # the ID in `met` of empty lines and remarks
 NO_GRADES = ("none", "several", "gave up", "clock")
 
 
+Step = Tuple[str, Sequence[Sequence[Any]]]  # a statement and its rows
+Met = Tuple[Optional[Tuple[str, str, int]], Optional[str]]  # ID, size and clues of a line, or its fault
+
+
 class Table:
     """`source` has how many lines of a file were taken, and a digest of them; `met` how often a puzzle stands in it, and on which
     line first, and as one of an empty ID the lines that were passed over."""
 
-    def __init__(self, path):
+    def __init__(self, path: str):
         self.digest = hashlib.sha256()
         try:
             self.base = sqlite3.connect(path, timeout=WAIT_SECONDS, isolation_level=None)
@@ -48,13 +53,13 @@ class Table:
         except sqlite3.Error as fault:
             raise type(fault)(f"{path}: {fault}") from None
 
-    def __enter__(self):
+    def __enter__(self) -> "Table":
         return self
 
-    def __exit__(self, *_):
+    def __exit__(self, *_: object) -> None:
         self.base.close()
 
-    def bring_up_to_date(self):
+    def bring_up_to_date(self) -> None:
         """Gives an older table its new columns and views."""
         if self.base.execute("PRAGMA user_version").fetchone()[0] >= VIEWS:
             return
@@ -67,7 +72,7 @@ class Table:
             self.base.execute(statement)
         self.base.execute("COMMIT")
 
-    def change(self, *steps, must=None):
+    def change(self, *steps: Step, must: Optional[int] = None) -> List[int]:
         """Runs steps, each a statement and a list of rows, wholly or not at all; tells how many rows each changed. The first one
         changes `must` rows, if that is said."""
         try:
@@ -83,7 +88,7 @@ class Table:
             if self.base.in_transaction:
                 self.base.execute("ROLLBACK")
 
-    def resume(self, source, game, lines):
+    def resume(self, source: str, game: str, lines: Iterator[bytes]) -> int:
         """Passes over the lines of a file that were taken before, and tells how many they are."""
         found = self.base.execute("SELECT lines, digest FROM source WHERE name = ? AND game = ?", (source, game)).fetchone()
         taken, digest = found or (0, self.digest.hexdigest())
@@ -94,7 +99,7 @@ class Table:
                         "by --source", REFUSED)
         return taken
 
-    def take(self, source, game, first, lines, met):
+    def take(self, source: str, game: str, first: int, lines: Sequence[bytes], met: Sequence[Met]) -> None:
         """Takes lines in, the first of which has this number, if no other run took them meanwhile."""
         for line in lines:
             self.digest.update(line + b"\n")
@@ -110,13 +115,13 @@ class Table:
             ("INSERT INTO refusal VALUES (?, ?, ?, ?)",
              [(source, number, game, fault) for number, (_, fault) in numbered if fault]), must=1)
 
-    def same_file(self, source, game):
+    def same_file(self, source: str, game: str) -> Optional[str]:
         """Another name by which the same lines were taken, if any."""
         found = self.base.execute("SELECT other.name FROM source AS one JOIN source AS other USING (game, lines, digest) "
                                   "WHERE one.name = ? AND game = ? AND other.name <> one.name", (source, game)).fetchone()
-        return found and found[0]
+        return str(found[0]) if found else None
 
-    def forget(self, source, game):
+    def forget(self, source: str, game: str) -> Tuple[int, int]:
         """Takes a file back by its name: its refusals, how often puzzles were met in it, and those that were met nowhere else."""
         of, mine = (source, game), "FROM met WHERE source = ? AND game = ?"
         self.can_forget(*of)
@@ -133,7 +138,7 @@ class Table:
              [(game, len(source) + 1, f"{source}:", len(source) + 2)]), must=1)
         return refusals, puzzles
 
-    def can_forget(self, source, game):
+    def can_forget(self, source: str, game: str) -> None:
         """Whether it is known what was met in a file. Of one that an older version took it isn't."""
         taken = self.base.execute("SELECT lines FROM source WHERE name = ? AND game = ?", (source, game)).fetchone()
         if not taken:
@@ -144,11 +149,11 @@ class Table:
             raise Fault(f"{source} was taken by an older version, which kept no list of its puzzles: so make the table anew",
                         REFUSED)
 
-    def count(self, game, wanted):
+    def count(self, game: str, wanted: str) -> int:
         """How many puzzles of a game are as a condition says."""
-        return self.base.execute(f"SELECT count(*) FROM puzzle WHERE game = ? AND {wanted}", (game,)).fetchone()[0]
+        return int(self.base.execute(f"SELECT count(*) FROM puzzle WHERE game = ? AND {wanted}", (game,)).fetchone()[0])
 
-    def ids(self, game, wanted):
+    def ids(self, game: str, wanted: str) -> Iterator[str]:
         """The IDs that are as a condition says, some at a time, so that the table may be changed meanwhile."""
         last = ""
         some = f"SELECT id FROM puzzle WHERE game = ? AND {wanted} AND id > ? ORDER BY id LIMIT {STEP}"
@@ -156,19 +161,19 @@ class Table:
             yield from (text for text, in found)
             last = found[-1][0]
 
-    def grade(self, game, answers):
+    def grade(self, game: str, answers: Iterable[Tuple[str, str]]) -> None:
         """Writes the verdicts of some IDs, each with what `grade` answered."""
         rows = [(*verdict(answer), game, text) for text, answer in answers]
         changed, = self.change(("UPDATE puzzle SET verdict = ?, grade = ?, trials = ? WHERE game = ? AND id = ?", rows))
         if rows and changed < len(rows):
             raise Fault(f"{len(rows) - changed} of {len(rows)} IDs aren't in the table as they are written", REFUSED)
 
-    def set(self, column, game, values):
+    def set(self, column: str, game: str, values: Iterable[Tuple[str, Any]]) -> None:
         """Writes a column of some IDs."""
         rows = [(value, game, text) for text, value in values]
         self.change((f"UPDATE puzzle SET {column} = ? WHERE game = ? AND id = ?", rows))
 
-    def listed(self, game, grade, most, is_apart):
+    def listed(self, game: str, grade: Optional[str], most: int, is_apart: bool) -> Iterator[sqlite3.Row]:
         """Rows, the hardest first: of a grade or a verdict; of puzzles with one form the first alone, if they shall be apart."""
         where, values = ["game = ?"], [game]
         if grade:
@@ -182,7 +187,7 @@ class Table:
         return self.base.execute(f"SELECT id, game, size, verdict, grade, trials, effort, clues, times, source, form FROM {view} "
                                  f"WHERE {' AND '.join(where)} LIMIT ?", (*values, most))
 
-    def summary(self, game):
+    def summary(self, game: str) -> str:
         """A line for each grade or verdict, and the doubles."""
         rows = self.base.execute("SELECT coalesce(grade, verdict, 'open'), count(*), sum(times), coalesce(max(trials), 0) "
                                  "FROM puzzle WHERE game = ? GROUP BY 1 ORDER BY 2 DESC, 1", (game,)).fetchall()
@@ -191,7 +196,7 @@ class Table:
                                    for name, count, _, trials in rows)])
 
 
-def verdict(answer):
+def verdict(answer: str) -> Tuple[str, Optional[str], Optional[int]]:
     """Verdict, grade and trials of what `grade` answers."""
     if answer in RULE_SETS:
         return "one", answer, 0

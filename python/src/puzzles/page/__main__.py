@@ -20,7 +20,9 @@ import sys
 import threading
 import time
 import webbrowser
+from email.message import Message
 from pathlib import Path
+from typing import Any, Counter, Dict, Iterable, Iterator, Optional
 
 from .. import _places
 from .calls import NEEDED, Calls, Refused, fields
@@ -48,7 +50,7 @@ HEADERS = {
 }
 
 
-def visitor(headers):
+def visitor(headers: Message) -> str:
     """Whom the server in front names: the last of all that is said, and of IPv6 the network of 64 bits, which is one visitor's."""
     said = headers.get_all("X-Forwarded-For", [""])[-1].rpartition(",")[2].strip()
     try:
@@ -62,9 +64,10 @@ def visitor(headers):
 class Page(http.server.BaseHTTPRequestHandler):
     server_version, sys_version = "puzzles", ""
     timeout = 5  # seconds of each wait for the visitor
+    server: "Server"
     wbufsize = -1  # so head and body of a reply go out at once
 
-    def do_GET(self):
+    def do_GET(self) -> None:
         name = self.path.partition("?")[0].removeprefix("/") or "index.html"
         if not self.is_ours():
             return self.send_error(421)
@@ -80,7 +83,7 @@ class Page(http.server.BaseHTTPRequestHandler):
 
     do_HEAD = do_GET
 
-    def do_POST(self):
+    def do_POST(self) -> None:
         call = self.path.removeprefix("/")
         try:
             asked = fields(call, self.body(call))
@@ -93,12 +96,12 @@ class Page(http.server.BaseHTTPRequestHandler):
             status, parts = 503, {"failed": failed.args[0]}
         self.reply(status, json.dumps(parts).encode())
 
-    def is_ours(self):
+    def is_ours(self) -> bool:
         """Whether the request names this server, and not a foreign name that was led to its address."""
         name = re.sub(r":[0-9]*$", "", self.headers.get("Host", ""))
         return name.lower() in self.server.names
 
-    def body(self, call):
+    def body(self, call: str) -> bytes:
         sizes = set(self.headers.get_all("Content-Length", [""]))
         size = sizes.pop() if len(sizes) == 1 else ""
         if not self.is_ours():
@@ -117,7 +120,7 @@ class Page(http.server.BaseHTTPRequestHandler):
             raise Refused(413, "too long")
         return body
 
-    def reply(self, status, body, kind="application/json", more=None):
+    def reply(self, status: int, body: bytes, kind: str = "application/json", more: Optional[Dict[str, str]] = None) -> None:
         more = more or {"Cache-Control": "no-store", **({"Retry-After": "2"} if status == 503 else {})}
         self.request_version = "HTTP/1.0"  # a request without a version gets a head all the same
         self.send_response(status)
@@ -127,24 +130,25 @@ class Page(http.server.BaseHTTPRequestHandler):
         if self.command != "HEAD":
             self.wfile.write(body)
 
-    def send_error(self, code, message=None, explain=None):
+    def send_error(self, code: int, message: Optional[str] = None, explain: Optional[str] = None) -> None:
         self.reply(code, json.dumps({"refused": http.HTTPStatus(code).phrase}).encode())  # nothing of the request
 
-    def log_message(self, format, *args):
+    def log_message(self, format: str, *args: object) -> None:
         pass
 
 
 class Turns:
     """So many calls at a time, and of a visitor that is named so many."""
 
-    def __init__(self):
-        self.changed, self.running = threading.Condition(), collections.Counter()
+    def __init__(self) -> None:
+        self.changed = threading.Condition()
+        self.running: Counter[str] = collections.Counter()
 
-    def is_free(self, visitor):
-        return self.running.total() < CALLS and (not visitor or self.running[visitor] < SHARE)
+    def is_free(self, visitor: str) -> bool:
+        return sum(self.running.values()) < CALLS and (not visitor or self.running[visitor] < SHARE)
 
     @contextlib.contextmanager
-    def turn(self, visitor):
+    def turn(self, visitor: str) -> Iterator[None]:
         with self.changed:
             if not self.changed.wait_for(lambda: self.is_free(visitor), PATIENCE):
                 raise Failed("busy")
@@ -162,12 +166,13 @@ class Turns:
 class Server(http.server.ThreadingHTTPServer):
     request_queue_size = 256
 
-    def __init__(self, port, program, names):
+    def __init__(self, port: int, program: str, names: Iterable[str]):
         super().__init__(("127.0.0.1", port), Page)
         self.calls, self.names = Calls(program), {"127.0.0.1", "localhost", *(name.lower() for name in names)}
-        self.turns, self.waiting = Turns(), {}  # by connection, the oldest first: when it began
+        self.turns = Turns()
+        self.waiting: Dict[Any, float] = {}  # by connection, the oldest first: when it began
 
-    def get_request(self):
+    def get_request(self) -> Any:
         try:
             return super().get_request()
         except OSError:  # no file is left for one more
@@ -175,21 +180,21 @@ class Server(http.server.ThreadingHTTPServer):
             time.sleep(0.05)
             raise
 
-    def process_request(self, request, client_address):
+    def process_request(self, request: Any, client_address: Any) -> None:
         self.waiting[request] = time.monotonic()
         if len(self.waiting) > WAITING:
             self.cut(0)
         super().process_request(request, client_address)
 
-    def shutdown_request(self, request):
+    def shutdown_request(self, request: Any) -> None:
         self.waiting.pop(request, None)
         super().shutdown_request(request)
 
-    def service_actions(self):  # after each request, and each half second
+    def service_actions(self) -> None:  # after each request, and each half second
         while self.cut(LIFE):
             pass
 
-    def cut(self, life):
+    def cut(self, life: float) -> bool:
         """Ends the oldest connection that waits for its request for so many seconds."""
         request, begun = next(iter(list(self.waiting.items())), (None, 0))
         if request is None or time.monotonic() - begun < life:
@@ -199,12 +204,12 @@ class Server(http.server.ThreadingHTTPServer):
             request.shutdown(2)  # in both directions
         return True
 
-    def handle_error(self, request, client_address):
+    def handle_error(self, request: Any, client_address: Any) -> None:
         if not isinstance(sys.exc_info()[1], OSError):  # that the visitor has gone is no fault
             super().handle_error(request, client_address)
 
 
-def main():
+def main() -> None:
     parser = argparse.ArgumentParser(description=__doc__, formatter_class=argparse.RawDescriptionHelpFormatter)
     parser.add_argument("program", nargs="?", default="puzzles", metavar="PROGRAM", help="`puzzles` on the path, if not said")
     parser.add_argument("--port", type=int, default=8017, help="0 for one that is free (default 8017)")
@@ -224,7 +229,7 @@ def main():
         PROCESSES.stop()
 
 
-def serve(program, words):
+def serve(program: str, words: argparse.Namespace) -> None:
     if not is_puzzles(program):
         sys.exit(f"{words.program}: it doesn't answer as `puzzles` does")
     try:
