@@ -3,7 +3,7 @@
 
 usage: library/build.py [--to FOLDER] [--kit KIT] [--jobs N] [so] [wasm]
 
-so      libpuzzles.so.0, the link libpuzzles.so to it, libpuzzles.a and puzzles.h; needs cc, ar and objcopy
+so      libpuzzles.so.0, the link libpuzzles.so to it, libpuzzles.a, libpuzzles_c.a and puzzles.h; needs cc, ar and objcopy
 wasm    puzzles.wasm and puzzles.js, and both in the folder npm, for npm; needs wasm-ld and wasm-opt (Debian's lld and binaryen)
 
 Without a word it makes both. FOLDER is library/out unless it is said, and a file gets its name there once it is whole. KIT is the
@@ -46,7 +46,7 @@ def build_shared(kit, archive, room):
     exports.write_text(EXPORTS.format(first, second))
     run(["cc", "-shared", "-o", made, f"-Wl,-soname,{made.name}", "-Wl,--whole-archive", archive, "-Wl,--no-whole-archive",
          kit.heap, "-Wl,--gc-sections", "-Wl,-z,defs", "-Wl,-z,now", "-Wl,-z,noexecstack", f"-Wl,--version-script={exports}"])
-    return [made, build_static(kit, archive, room), HERE / "puzzles.h"]
+    return [made, build_static(kit, archive, room), archive, HERE / "puzzles.h"]
 
 
 def build_static(kit, archive, room):

@@ -12,7 +12,6 @@ Statuses: 0; 2 words refused; 6 a fault of reading or writing; 7 the library can
 import argparse
 import hashlib
 import pathlib
-import sys
 
 from package import about, ended, release, write
 from package_files import File, deb, squeezed

@@ -91,7 +91,8 @@ def test_large_boards(bench):
     """a Pattern of 40x40 goes on A4 with smaller cells, which have to be asked for; the largest one is named"""
     boards = bench.folder / "boards.txt"
     boards.write_text(f"5x5:2/4/4/4/2/1.1/5/5/3/1\n{LARGE}\n")
-    bench.told([BOOK, bench.folder / "x.pdf", f"pattern:@{boards}"], 2, "pattern 40x40 doesn't fit the paper: its cells would be 3.")
+    said = "pattern 40x40 doesn't fit the paper: its cells would be 3."
+    bench.told([BOOK, bench.folder / "x.pdf", f"pattern:@{boards}"], 2, said)
     path, _, rows = make(bench, "large.pdf", "--bare", "--least-cell", "3.3", [f"pattern:@{boards}"])
     assert [row["size"] for row in rows] == ["5x5", "40x40"] and "A4" in information(bench, path)["Page size"], f"{rows}"
     bench.told([BOOK, "--least-cell", "2", bench.folder / "x.pdf", "solo:2x2:any:1"], 2, "the least cell has 3 to 20 mm")

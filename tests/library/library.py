@@ -216,11 +216,10 @@ def run_examples(tally, program, file, folder):
 def symbols(tally, file):
     """What the library defines for others, and what it needs."""
     for flag, wanted in (("--defined-only", EXPORTS), ("--undefined-only", None)):
-        told = subprocess.run(["nm", "-D", flag, file], capture_output=True, text=True, check=True, timeout=STEP_SECONDS).stdout
-        lines = [line for line in told.splitlines() if " A " not in line]  # but for the version's own name
-        names = {line.split()[-1].partition("@")[0] for line in lines}
+        lines = subprocess.run(["nm", "-D", flag, file], capture_output=True, text=True, check=True, timeout=STEP_SECONDS).stdout
+        names = {line.split()[-1].partition("@")[0] for line in lines.splitlines() if " A " not in line}  # which is the version's
         tally.same(f"nm {flag}", names if wanted else names - NEEDED, wanted or set())
-        versions = {line.partition("@@")[2] for line in lines if " T " in line}
+        versions = {line.partition("@@")[2] for line in lines.splitlines() if " T " in line}
         tally.same(f"versions of nm {flag}", versions, {"PUZZLES_0.1"} if wanted else set())
     told = subprocess.run(["readelf", "-d", file], capture_output=True, text=True, check=True, timeout=STEP_SECONDS).stdout
     tally.same("the name of the library", re.findall(r"soname: \[(.*)\]", told), ["libpuzzles.so.0"])

@@ -76,5 +76,6 @@ def test_types(installed):
     (installed / "typed.ts").write_text(TYPED)
     how = {"strict": True, "noEmit": True, "target": "es2022", "module": "node16", "moduleResolution": "node16", "types": []}
     (installed / "tsconfig.json").write_text(json.dumps({"compilerOptions": how, "files": ["typed.ts"]}))
-    done = subprocess.run(["tsc", "--project", "tsconfig.json"], cwd=installed, capture_output=True, text=True, check=False, timeout=SECONDS)
+    words = ["tsc", "--project", "tsconfig.json"]
+    done = subprocess.run(words, cwd=installed, capture_output=True, text=True, check=False, timeout=SECONDS)
     assert done.returncode == 0, done.stdout

@@ -91,8 +91,10 @@ def test_exports(made):
     _, root = made
     place = libraries(root)
     shared = [line.split()[-1] for line in ran(["nm", "-D", "--defined-only", place / "libpuzzles.so.0"]).splitlines()]
-    static = [line.split()[-1] for line in ran(["nm", "-g", "--defined-only", place / "libpuzzles.a"]).splitlines() if " T " in line]
-    assert {name.partition("@")[0] for name in shared if name.startswith("puzzles_")} == set(static) and len(static) == 6, f"{static}"
+    lines = ran(["nm", "-g", "--defined-only", place / "libpuzzles.a"]).splitlines()
+    static = [line.split()[-1] for line in lines if " T " in line]
+    calls = {name.partition("@")[0] for name in shared if name.startswith("puzzles_")}
+    assert calls == set(static) and len(static) == 6, f"{static}"
     assert all(name.endswith("@@PUZZLES_0.1") for name in shared if name.startswith("puzzles_")), f"{shared}"
     assert all(name.startswith(("puzzles_", "PUZZLES_")) for name in shared), f"{shared}"
 
@@ -111,7 +113,8 @@ def test_faults(library, tmp_path):
     """what is no library, and a folder that can't be written: one sentence and a status"""
     script = TOP / "packaging" / "package_library.py"
     (tmp_path / "libpuzzles.so.0").write_text("none")
-    for words, status, said in (([tmp_path, tmp_path / "out"], 7, "no ELF program"), ([tmp_path / "none", tmp_path / "out"], 6, "none"),
+    for words, status, said in (([tmp_path, tmp_path / "out"], 7, "no ELF program"),
+                                ([tmp_path / "none", tmp_path / "out"], 6, "none"),
                                 ([pathlib.Path(library).resolve().parent, "/proc/out"], 6, "/proc/out")):
         done = subprocess.run([script, *words], capture_output=True, text=True, check=False, timeout=SECONDS)
         assert done.returncode == status and said in done.stderr and len(done.stderr.splitlines()) == 1, done.stderr

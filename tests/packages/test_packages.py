@@ -237,7 +237,8 @@ def test_versions(packages):
     """of two commits of a day the later package is the newer one; a release wants its day and digest, and then a new head"""
     top, bench, out = packages.folder / "versions", packages.bench, packages.folder / "of versions"
     bench.good(["git", "clone", "-q", "--shared", TOP, top])
-    script, changes, git = top / "packaging/package.py", top / "CHANGELOG.md", ["git", "-C", top, "-c", "user.name=a", "-c", "user.email=a@b"]
+    script, changes = top / "packaging/package.py", top / "CHANGELOG.md"
+    git = ["git", "-C", top, "-c", "user.name=a", "-c", "user.email=a@b"]
     made = []
     for seconds in (1_800_000_000, 1_800_000_001, 1_800_007_000):
         when = {"GIT_AUTHOR_DATE": f"{seconds} +0000", "GIT_COMMITTER_DATE": f"{seconds} +0000"}

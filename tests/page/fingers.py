@@ -46,7 +46,8 @@ def numbers(page, _, tally):
     page.size(390, 664)
     for text, rows in ((NINE, [5, 4]), (SIXTEEN, [8, 8]), (SOLO, [4])):
         page.open("solo", text)
-        tops = page.script("return [...document.querySelectorAll('#pad button')].map((found) => found.getBoundingClientRect().top)")
+        tops = page.script("return [...document.querySelectorAll('#pad button')].map("
+                           "(found) => found.getBoundingClientRect().top)")
         tally.same(f"rows of the numbers of {text[:4]}", [tops.count(top) for top in sorted(set(tops))], rows)
     page.size(1280, 800)
 

@@ -195,8 +195,9 @@ library, calls = puzzles.Library(sys.argv[1]), 0
 for game, text, size in [line.split() for line in sys.stdin]:
     grid = puzzles.solve(game, text).grids[0]
     for name, words, more in [("solve", (text,), {}), ("solve", (text,), {"budget": 0}), ("solve", (text + "x",), {}),
-                              ("check", (text, grid), {}), ("check", (text, grid[::-1]), {}), ("check", (text, "\\n".join(grid)), {}),
-                              ("grade", (text,), {}), ("grade", (text,), {"trace": True}), ("grade", (" " + text,), {"budget": 2}),
+                              ("check", (text, grid), {}), ("check", (text, grid[::-1]), {}),
+                              ("check", (text, "\\n".join(grid)), {}), ("grade", (text,), {}),
+                              ("grade", (text,), {"trace": True}), ("grade", (" " + text,), {"budget": 2}),
                               ("generate", (size, 3), {"budget": 50}), ("generate", (size, 3), {"tries": 0}),
                               ("generate", (size, -1), {}), ("generate", (size, 1), {"black": 101}), ("solve", ("a\\0b",), {}),
                               ("solve", (text,), {"budget": 2**64}), ("solve", ("1" * 70_000,), {})]:

@@ -97,7 +97,8 @@ def test_saves(bench):
                               timeout=120, text=True).stdout.strip()
         return path.with_name(f"{path.name}0.sav"), made.partition(":")[2]
     saved = {}
-    for game, size in (("solo", "3x3du"), ("solo", "2x3xdt"), ("pattern", "10x10"), ("lightup", "7x7b20s4d0"), ("tents", "8x8dt")):
+    for game, size in (("solo", "3x3du"), ("solo", "2x3xdt"), ("pattern", "10x10"), ("lightup", "7x7b20s4d0"),
+                       ("tents", "8x8dt")):
         path, wanted = save(game, size)
         found = bench.good([CONVERT, "from", "save", path]).splitlines()
         head = re.match(r"\d+x\d+x?", size)[0]
@@ -113,7 +114,8 @@ def test_saves(bench):
 
 def test_links(bench):
     """links of puzz.link and pzpr give IDs and come of them; others are told by their line"""
-    known = {"https://puzz.link/p?sudoku/4/4/1h4h1h4h4321": "2x2:1b4b1b4b4_3_2_1", "http://pzv.jp/p.html?sudoku/16/16/-10fz": None,
+    known = {"https://puzz.link/p?sudoku/4/4/1h4h1h4h4321": "2x2:1b4b1b4b4_3_2_1",
+             "http://pzv.jp/p.html?sudoku/16/16/-10fz": None,
              "https://puzz.link/p?akari/3/3/g..g1g.h": "3x3:aBBa1aBb", "see https://puzz.link/p?lightup/4/2/6bl": "4x2:1a1e"}
     for link, wanted in known.items():
         found, told = taken(bench, "link", f"# a list\n\n{link}\n")
@@ -124,7 +126,8 @@ def test_links(bench):
         assert taken(bench, "link", links)[0] == texts, links
         assert all(urllib.parse.urlparse(link).netloc == "puzz.link" for link in links.splitlines()), links
     faults = {"https://puzz.link/p?slither/4/4/1h4": "a link of slither", "nonsense": "no link of puzz.link",
-              "https://puzz.link/p?sudoku/6/6/1": "whose blocks aren't square", "https://puzz.link/p?sudoku/4/4/5": "its cells aren't",
+              "https://puzz.link/p?sudoku/6/6/1": "whose blocks aren't square",
+              "https://puzz.link/p?sudoku/4/4/5": "its cells aren't",
               "https://puzz.link/p?akari/3/3/z.": "its cells aren't", "https://puzz.link/p?akari/3/3/f": "its cells"}
     for link, said in faults.items():
         _, told = taken(bench, "link", f"\n{link}\n", 2)

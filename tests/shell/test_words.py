@@ -100,7 +100,7 @@ def test_completions_of_tools(bench):
     for name, tool in bench.tools.items():
         shutil.copy(tool, bench.folder / ".local" / "bin" / name)
     line = "puzzles-book --pap"
-    loaded = BASH.replace("_completion_loader puzzles; [ $? = 124 ] && _puzzles", "_completion_loader puzzles; _puzzles_tool puzzles-book")
+    loaded = BASH.replace("[ $? = 124 ] && _puzzles", "_puzzles_tool puzzles-book")
     found = {"bash": bench.run(["bash", "--norc", "-c", loaded, "bash", line], PATH=path).stdout.split(),
              "fish": bench.run(["fish", "-c", "source ~/.config/fish/completions/puzzles.fish; complete -C '" + line + "'"],
                                PATH=path).stdout.split(),

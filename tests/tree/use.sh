@@ -29,8 +29,6 @@ not_run=(
     '(cd crates/core_tests && rt try --test -- sizes_have_bounds)'
     '(cd crates/core_tests && rt test)'
     'python/run page ~/.local/bin/puzzles'
-    'python/run page-static ~/puzzles-page'
-    'python3 -m http.server --bind 127.0.0.1 --directory ~/puzzles-page 8017'
     'sudo apt-get install python3-distributed'
     'dask scheduler --host 127.0.0.1 --port 8786 --no-dashboard'
     'dask worker tcp://127.0.0.1:8786 --nworkers 4 --nthreads 1 --no-dashboard'

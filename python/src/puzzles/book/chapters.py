@@ -17,7 +17,8 @@ Seed = Union[int, str]  # empty, if there is none
 
 @dataclasses.dataclass(frozen=True)
 class Chapter:
-    """`ids` has the puzzles of a file, and `seeds` theirs, if it is a book's table. `title` is what a chapter of a file is called."""
+    """`ids` has the puzzles of a file, and `seeds` theirs, if it is a book's table; `title` is what a chapter of a file is called.
+    """
     game: str
     size: str
     level: str

@@ -16,7 +16,8 @@ CONTENTS_HEIGHT = 7.2  # of a line, in millimetres
 RULES_ROOM = 225  # millimetres of a page that has all rules of a game, if grades are told
 BREAK = "<hr>"  # between two pages of a file
 # Front matter is text and pictures: no script runs, and no other page comes in.
-POLICY = """<meta http-equiv="Content-Security-Policy" content="default-src 'none'; style-src 'unsafe-inline'; img-src data: file:">"""
+POLICY = ("""<meta http-equiv="Content-Security-Policy" """
+          """content="default-src 'none'; style-src 'unsafe-inline'; img-src data: file:">""")
 EXAMPLES = {"solo": "2x2:1b4i3_2a", "pattern": "5x5:2/4/4/4/2/1.1/5/5/3/1", "lightup": "5x5:2c0cBfB01c2a1B",
             "tents": "5x5:ca_bgdb,1,2,1,1,1,3,0,1,1,1"}
 STYLE = pathlib.Path(__file__).resolve().with_name("book.css")
@@ -73,8 +74,8 @@ class Book:
             width=paper.width, height=paper.height, side=paper.side, inner=paper.side + self.sheet.gutter, text=paper.text,
             drop=paper.height / 5, room=self.sheet.height, top=layout.TOP, bottom=layout.BOTTOM, heading=layout.HEADING,
             gap=layout.GAP, solved_gap=layout.SOLVED_GAP, label=layout.LABEL, caption=layout.CAPTION)
-        return (f'<!doctype html><html lang="{self.texts["language"]}"><meta charset="utf-8">{POLICY}<title>{html.escape(self.title)}'
-                f"</title><style>{style}</style><body>{''.join(self.pages)}")
+        return (f'<!doctype html><html lang="{self.texts["language"]}"><meta charset="utf-8">{POLICY}'
+                f"<title>{html.escape(self.title)}</title><style>{style}</style><body>{''.join(self.pages)}")
 
     def name(self, puzzle: Puzzle) -> str:
         return self.texts["names"]["solo x" if puzzle.is_crossed else puzzle.game]
