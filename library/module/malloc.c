@@ -10,7 +10,7 @@ typedef struct Free {
     struct Free *next;
 } Free;
 
-enum { PAGE = 65536, ALIGNMENT = 16, CLASSES = 160 };
+enum { PAGE = 65536, CLASSES = 160 };
 static const u64 MOST = 1ul << 40;
 
 extern char __heap_base; // where the linker ends the module's data

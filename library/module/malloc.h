@@ -1,5 +1,8 @@
 // The heap of the module, which has no C library.
+#pragma once
 typedef unsigned long u64;
+
+enum { ALIGNMENT = 16 }; // of each block
 
 void *malloc(u64 size);
 void *realloc(void *place, u64 size);
