@@ -3,8 +3,8 @@
 
 usage: library/build.py [--to FOLDER] [--kit KIT] [--jobs N] [so] [wasm] [c]
 
-so      libpuzzles.so.0, the link libpuzzles.so to it, libpuzzles.a, libpuzzles_c.a and puzzles.h; needs cc, ar and objcopy
-wasm    puzzles.wasm and puzzles.js, and both in the folder npm, for npm; needs wasm-ld and wasm-opt (Debian's lld and binaryen)
+so      libpuzzles.so.0, the link libpuzzles.so to it, libpuzzles.a, libpuzzles_c.a, puzzles.h; needs objcopy
+wasm    puzzles.wasm and puzzles.js, and both in the folder npm, for npm; needs wasm-opt (Debian's binaryen)
 c       puzzles.c and puzzles.h: the module as one file of C, by in_c.py; needs wasm2c (Debian's wabt) besides
 
 Without a word it makes the first two. FOLDER is library/out unless it is said, and a file gets its name there once it is whole. KIT is the
@@ -12,7 +12,8 @@ folder of Rattle's kit, and else the one that `rt doc` names.
 
 All come of one run of `rt lib` in crates/puzzles_c, which proves what isn't proved here. From nothing that takes what a first
 build of the program takes (bench/README.md). The module is what this run hands to the kit's clang, compiled for WebAssembly:
-Rattle itself makes no module that takes memory.
+Rattle itself makes no module that takes memory. The kit's linker links all, so that another machine makes the same bytes if it
+has the same wasm-opt, whose version is told.
 The status is 0 if all is made, 1 if a step fails, and 2 if something is missing.
 """
 import argparse
@@ -30,10 +31,11 @@ from npm_folder import fill
 
 HERE = pathlib.Path(__file__).resolve().parent
 CRATE = HERE.parent / "crates" / "puzzles_c"
-TOOLS = {"so": ["cc", "ar", "objcopy"], "wasm": ["wasm-ld", "wasm-opt"], "c": ["wasm-ld", "wasm-opt", "wasm2c"]}
+TOOLS = {"so": ["objcopy"], "wasm": ["wasm-opt"], "c": ["wasm-opt", "wasm2c"]}
 USUAL = ["so", "wasm"]
 EXPORTS = "PUZZLES_{}.{} {{ global: puzzles_*; local: *; }};\n"
 LINK = "libpuzzles.so"
+SAFE = [word for flag in ("defs", "now", "relro", "noexecstack", "separate-code") for word in ("-z", flag)]
 
 
 def version():
@@ -47,18 +49,19 @@ def build_shared(kit, archive, room):
     first, second = version()
     exports, made = room / "exports", room / f"{LINK}.{first}"
     exports.write_text(EXPORTS.format(first, second))
-    run(["cc", "-shared", "-o", made, f"-Wl,-soname,{made.name}", "-Wl,--whole-archive", archive, "-Wl,--no-whole-archive",
-         kit.heap, "-Wl,--gc-sections", "-Wl,-z,defs", "-Wl,-z,now", "-Wl,-z,noexecstack", f"-Wl,--version-script={exports}"])
+    run([kit.linker, "-shared", "-o", made, "--whole-archive", archive, "--no-whole-archive", kit.heap, kit.c_library,
+         "-soname", made.name, "--gc-sections", *SAFE, "--build-id=sha1", "--hash-style=gnu", "--eh-frame-hdr",
+         f"--version-script={exports}"])
     return [made, build_static(kit, archive, room), archive, HERE / "puzzles.h"]
 
 
 def build_static(kit, archive, room):
     """The same in an archive that needs nothing but the C library, and whose one object has no other names."""
     whole, made = room / "puzzles.o", room / "libpuzzles.a"
-    run(["cc", "-r", "-nostdlib", "-o", whole, "-Wl,--whole-archive", archive, "-Wl,--no-whole-archive", kit.heap])
+    run([kit.linker, "-r", "-o", whole, "--whole-archive", archive, "--no-whole-archive", kit.heap])
     run(["objcopy", "--wildcard", "--keep-global-symbol=puzzles_*", whole])
     made.unlink(missing_ok=True)
-    run(["ar", "rcsD", made, whole])
+    run([kit.archiver, "rcsD", made, whole])
     return made
 
 
@@ -84,6 +87,8 @@ def build(asked, room):
     kit.make_library(CRATE, room, asked.jobs, asked.to / "build.log")
     made = build_shared(kit, CRATE / "out" / "libpuzzles_c.a", room) if "so" in asked.parts else []
     module = build_module(kit, room) if {"wasm", "c"} & set(asked.parts) else None
+    if module:
+        print(run(["wasm-opt", "--version"]).decode().strip(), flush=True)
     if "wasm" in asked.parts:
         made += [module, HERE / "puzzles.js"]
     if "c" in asked.parts:

@@ -17,17 +17,20 @@ from kit import Failed, run
 
 HERE = pathlib.Path(__file__).resolve().parent
 OURS = re.compile(r"(?m)^(?=(?:u32|u64|void|wasm_rt_memory_t\*) Z_puzzles)")
-# How often each thing is to be found in what wasm2c wrote, and what stands there then.
-CHANGES = {'#include "module.h"\n': "", "#include <alloca.h>\n": ""}
+# What is left out of what wasm2c wrote: files that aren't everywhere, and what is of fractions and of tables, which the module
+# has not. Each stands there once.
+LEFT_OUT = [r'#include "module\.h"\n', r"#include <alloca\.h>\n", r"#include <math\.h>\n",
+            r"static float quiet_nanf\((?s:.*?)(?=static inline void memory_fill\()",
+            r"typedef struct \{\n  uint32_t func_type_index;(?s:.*?)(?=static bool s_module_initialized )"]
 HEAD = "// The module of puzzles as C, by wasm2c. Compile it with puzzles.h beside it: cc -O2 -c puzzles.c\n"
 
 
 def in_one(header, source):
     """The file: what wasm2c asks for, its header, the module, and the calls. No name but those of puzzles.h is seen outside."""
-    for old, new in CHANGES.items():
-        if source.count(old) != 1:
-            raise Failed(f"wasm2c is of another version: {source.count(old)} lines {old.strip()}, and not one")
-        source = source.replace(old, new)
+    for part in LEFT_OUT:
+        source, found = re.subn(part, "", source)
+        if found != 1:
+            raise Failed(f"wasm2c is of another version: {found} parts {part}, and not one")
     if "Z_puzzles_instantiate(Z_puzzles_instance_t*);" not in header:
         raise Failed("wasm2c is of another version: it has no Z_puzzles_instantiate")
     header = header.replace('#include "wasm-rt.h"\n', "")

@@ -29,14 +29,6 @@
 enum { PAGE = 65536 };
 enum { WASM_RT_I32, WASM_RT_I64, WASM_RT_F32, WASM_RT_F64 };
 
-// Of tables only the types are named.
-typedef void (*wasm_rt_function_ptr_t)(void);
-typedef struct { uint32_t func_type; wasm_rt_function_ptr_t func; void *module_instance; } wasm_rt_funcref_t;
-typedef struct { wasm_rt_funcref_t *data; uint32_t max_size, size; } wasm_rt_funcref_table_t;
-typedef void *wasm_rt_externref_t;
-typedef struct { wasm_rt_externref_t *data; uint32_t max_size, size; } wasm_rt_externref_table_t;
-#define wasm_rt_externref_null_value NULL
-
 typedef struct {
     uint8_t *data; // null if there was no memory to begin with
     uint32_t pages, max_pages, size;
