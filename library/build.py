@@ -7,8 +7,8 @@ so      libpuzzles.so.0, the link libpuzzles.so to it, libpuzzles.a, libpuzzles_
 wasm    puzzles.wasm and puzzles.js, and both in the folder npm, for npm; needs wasm-opt (Debian's binaryen)
 c       puzzles.c and puzzles.h: the module as one file of C, by in_c.py; needs wasm2c (Debian's wabt) besides
 
-Without a word it makes the first two. FOLDER is library/out unless it is said, and a file gets its name there once it is whole. KIT is the
-folder of Rattle's kit, and else the one that `rt doc` names.
+Without a word it makes the first two. FOLDER is library/out unless it is said, and a file gets its name there once it is whole.
+KIT is the folder of Rattle's kit, and else the one that `rt doc` names.
 
 All come of one run of `rt lib` in crates/puzzles_c, which proves what isn't proved here. From nothing that takes what a first
 build of the program takes (bench/README.md). The module is what this run hands to the kit's clang, compiled for WebAssembly:
