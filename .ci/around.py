@@ -193,7 +193,7 @@ class Gate:
 
     def build(self):
         """The library and the module, out of the proofs that `rt ci` left."""
-        parts = [part for part, probes in {"so": ["cc"], "wasm": ["wasm-ld", "wasm-opt"]}.items()
+        parts = [part for part, probes in {"so": ["objcopy"], "wasm": ["wasm-opt"]}.items()
                  if not self.missing(f"library/build.py {part}", ["rt", *probes])]
         if parts:
             words = [sys.executable, "library/build.py", f"--to={self.built}", f"--jobs={rooms()}", *parts]

@@ -1,17 +1,19 @@
 #!/usr/bin/env python3
-"""Proves the library for C and builds it: for any process, and for browsers.
+"""Proves the library for C and builds it: for any process, for browsers, and for other processors.
 
-usage: library/build.py [--to FOLDER] [--kit KIT] [--jobs N] [so] [wasm]
+usage: library/build.py [--to FOLDER] [--kit KIT] [--jobs N] [so] [wasm] [c]
 
-so      libpuzzles.so.0, the link libpuzzles.so to it, libpuzzles.a, libpuzzles_c.a and puzzles.h; needs cc, ar and objcopy
-wasm    puzzles.wasm and puzzles.js, and both in the folder npm, for npm; needs wasm-ld and wasm-opt (Debian's lld and binaryen)
+so      libpuzzles.so.0, the link libpuzzles.so to it, libpuzzles.a, libpuzzles_c.a, puzzles.h; needs objcopy
+wasm    puzzles.wasm and puzzles.js, and both in the folder npm, for npm; needs wasm-opt (Debian's binaryen)
+c       puzzles.c and puzzles.h: the module as one file of C, by in_c.py; needs wasm2c (Debian's wabt) besides
 
-Without a word it makes both. FOLDER is library/out unless it is said, and a file gets its name there once it is whole. KIT is the
-folder of Rattle's kit, and else the one that `rt doc` names.
+Without a word it makes the first two. FOLDER is library/out unless it is said, and a file gets its name there once it is whole.
+KIT is the folder of Rattle's kit, and else the one that `rt doc` names.
 
-Both come of one run of `rt lib` in crates/puzzles_c, which proves what isn't proved here. From nothing that takes what a first
+All come of one run of `rt lib` in crates/puzzles_c, which proves what isn't proved here. From nothing that takes what a first
 build of the program takes (bench/README.md). The module is what this run hands to the kit's clang, compiled for WebAssembly:
-Rattle itself makes no module that takes memory.
+Rattle itself makes no module that takes memory. The kit's linker links all, so that another machine makes the same bytes if it
+has the same wasm-opt, whose version is told.
 The status is 0 if all is made, 1 if a step fails, and 2 if something is missing.
 """
 import argparse
@@ -22,15 +24,18 @@ import shutil
 import sys
 import tempfile
 
+from in_c import build_c
 from kit import Failed, Kit, run
 from module import build_module
 from npm_folder import fill
 
 HERE = pathlib.Path(__file__).resolve().parent
 CRATE = HERE.parent / "crates" / "puzzles_c"
-TOOLS = {"so": ["cc", "ar", "objcopy"], "wasm": ["wasm-ld", "wasm-opt"]}
+TOOLS = {"so": ["objcopy"], "wasm": ["wasm-opt"], "c": ["wasm-opt", "wasm2c"]}
+USUAL = ["so", "wasm"]
 EXPORTS = "PUZZLES_{}.{} {{ global: puzzles_*; local: *; }};\n"
 LINK = "libpuzzles.so"
+SAFE = [word for flag in ("defs", "now", "relro", "noexecstack", "separate-code") for word in ("-z", flag)]
 
 
 def version():
@@ -44,18 +49,19 @@ def build_shared(kit, archive, room):
     first, second = version()
     exports, made = room / "exports", room / f"{LINK}.{first}"
     exports.write_text(EXPORTS.format(first, second))
-    run(["cc", "-shared", "-o", made, f"-Wl,-soname,{made.name}", "-Wl,--whole-archive", archive, "-Wl,--no-whole-archive",
-         kit.heap, "-Wl,--gc-sections", "-Wl,-z,defs", "-Wl,-z,now", "-Wl,-z,noexecstack", f"-Wl,--version-script={exports}"])
+    run([kit.linker, "-shared", "-o", made, "--whole-archive", archive, "--no-whole-archive", kit.heap, kit.c_library,
+         "-soname", made.name, "--gc-sections", *SAFE, "--build-id=sha1", "--hash-style=gnu", "--eh-frame-hdr",
+         f"--version-script={exports}"])
     return [made, build_static(kit, archive, room), archive, HERE / "puzzles.h"]
 
 
 def build_static(kit, archive, room):
     """The same in an archive that needs nothing but the C library, and whose one object has no other names."""
     whole, made = room / "puzzles.o", room / "libpuzzles.a"
-    run(["cc", "-r", "-nostdlib", "-o", whole, "-Wl,--whole-archive", archive, "-Wl,--no-whole-archive", kit.heap])
+    run([kit.linker, "-r", "-o", whole, "--whole-archive", archive, "--no-whole-archive", kit.heap])
     run(["objcopy", "--wildcard", "--keep-global-symbol=puzzles_*", whole])
     made.unlink(missing_ok=True)
-    run(["ar", "rcsD", made, whole])
+    run([kit.archiver, "rcsD", made, whole])
     return made
 
 
@@ -80,9 +86,14 @@ def build(asked, room):
     print(f"proves and builds {CRATE.name}; what `rt` says goes to {asked.to}/build.log", file=sys.stderr)
     kit.make_library(CRATE, room, asked.jobs, asked.to / "build.log")
     made = build_shared(kit, CRATE / "out" / "libpuzzles_c.a", room) if "so" in asked.parts else []
+    module = build_module(kit, room) if {"wasm", "c"} & set(asked.parts) else None
+    if module:
+        print(run(["wasm-opt", "--version"]).decode().strip(), flush=True)
     if "wasm" in asked.parts:
-        made += [build_module(kit, room), HERE / "puzzles.js"]
-    for file in made:
+        made += [module, HERE / "puzzles.js"]
+    if "c" in asked.parts:
+        made += [build_c(module, room), HERE / "puzzles.h"]
+    for file in dict.fromkeys(made):
         hand_over(file, asked.to)
     if "so" in asked.parts:
         link_to(made[0], asked.to)
@@ -95,9 +106,9 @@ def main():
     form.add_argument("--to", metavar="FOLDER", type=pathlib.Path, default=HERE / "out")
     form.add_argument("--kit", metavar="KIT", type=pathlib.Path)
     form.add_argument("--jobs", metavar="N", type=int, default=2)
-    form.add_argument("parts", nargs="*", metavar="so, wasm")
+    form.add_argument("parts", nargs="*", metavar="so, wasm, c")
     asked = form.parse_args()
-    asked.parts, asked.to = asked.parts or list(TOOLS), asked.to.absolute()
+    asked.parts, asked.to = asked.parts or USUAL, asked.to.absolute()
     if unknown := set(asked.parts) - set(TOOLS):
         form.error(f"no part of the library: {', '.join(sorted(unknown))}")
     missing = [tool for part in asked.parts for tool in TOOLS[part] if not shutil.which(tool)]

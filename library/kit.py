@@ -8,12 +8,12 @@ PROVING_SECONDS = 3 * 3600
 STEP_SECONDS = 900
 SMALL = 1 << 20  # bytes; of the kit's own commands the scripts are smaller, and find the kit by where they lie
 
-# Stands in the place of clang: keeps the module that it is to compile, and has it compiled. Where it is to keep that of a certain
-# word alone, it ends there.
+# Stands in the place of clang: keeps the module that it is to compile, and has it compiled. A second module is a failure, since
+# it isn't known which of them is the library. Where it is to keep that of a certain word alone, it ends there.
 KEEPER = """#!/bin/sh
 case "$*" in *"{only}"*) ;; *) exec "{clang}" "$@" ;; esac
 for word in "$@"; do
-    case $word in *.bc) cp "$word" "{kept}" ;; esac
+    case $word in *.bc) [ ! -e "{kept}" ] || exit 1; cp "$word" "{kept}" ;; esac
 done
 [ -z "{only}" ] || exit 1
 exec "{clang}" "$@"
@@ -45,6 +45,8 @@ class Kit:
             raise Failed("needed and not found: rt, or --kit with the kit's folder")
         self.folder = (folder or pathlib.Path(run(["rt", "doc"]).decode().strip()).parent).absolute()
         self.clang, self.heap = self.part("*/bin/clang"), self.part("c/liblibc_c.a")
+        self.linker, self.archiver = self.part("*/bin/ld.lld"), self.part("*/bin/llvm-ar")
+        self.c_library = self.part("*/lib/libc.so.6")
 
     def part(self, pattern):
         found = sorted(self.folder.glob(pattern))

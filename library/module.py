@@ -43,7 +43,7 @@ def build_module(kit, room):
     for source in sorted(SOURCES.glob("*.c")):
         objects.append(room / f"{source.stem}.o")
         run([kit.clang, *COMPILE, *OF_SOURCES, source, "-o", objects[-1]])
-    run(["wasm-ld", "-mwasm64", "--no-entry", "--stack-first", "-z", f"stack-size={STACK}", "--gc-sections", "--strip-all",
-         f"--max-memory={MOST_MEMORY}", *(f"--export={name}" for name in EXPORTS), "-o", wide, *objects])
+    run([kit.linker, "-flavor", "wasm", "-mwasm64", "--no-entry", "--stack-first", "-z", f"stack-size={STACK}", "--gc-sections",
+         "--strip-all", f"--max-memory={MOST_MEMORY}", *(f"--export={name}" for name in EXPORTS), "-o", wide, *objects])
     run(["wasm-opt", *LOWER, wide, "-o", made])
     return made

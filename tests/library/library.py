@@ -1,13 +1,14 @@
 #!/usr/bin/env python3
 """Compares the library for C with the program, call by call, and tries it as a process with threads would use it.
 
-usage: tests/library/library.py [--puzzles N] [--calls N] [--built FOLDER] PROGRAM
+usage: tests/library/library.py [--puzzles N] [--calls N] [--built FOLDER] [--as-c] PROGRAM
 
 PROGRAM is as `rt run` leaves it: crates/puzzles/out/puzzles. The library is that of FOLDER; else `library/build.py so` proves and
 builds it, into library/out. N puzzles, 1,000 unless it is said, of all games and sizes are solved, checked with a right and with
 a mixed grid, and graded with the trace and without. Beside them stand making, refused and hostile texts, answers that don't fit
 at first, four threads at once, want of memory, and the examples in C and Python. Library and program run with twice the stack
 that docs/PROOF.md says they need. The memory is looked at over 100,000 calls.
+With --as-c the library is that of the module as C: FOLDER has puzzles.c and puzzles.h, and else library/build.py c makes them.
 It needs cc, nm and readelf. The status is 1 if anything differs.
 """
 import argparse
@@ -17,6 +18,7 @@ import pathlib
 import random
 import re
 import resource
+import shutil
 import subprocess
 import sys
 import tempfile
@@ -25,6 +27,7 @@ import time
 
 import library_cases as cases
 from puzzles import library as example
+from support import library_file
 from support.words import processor_seconds
 from support.bench import TOP
 
@@ -32,12 +35,8 @@ STEP_SECONDS = 600
 BUILD_SECONDS = 4 * 3600
 THREADS = 4
 FLAT = 256 * 1024  # bytes that the memory may differ by between a fifth of the calls and all
-EXPORTS = {f"puzzles_{name}" for name in [*example.CALLS, "version"]}
 PROGRAM_STACK, LIBRARY_STACK = 80 << 10, 32 << 10  # bytes that they need at most, as docs/PROOF.md says; words come besides
 HEADER = (TOP / "library" / "puzzles.h").read_text()
-# What the library takes from the C library and the loader: memory, and no input, output, clock or network.
-NEEDED = {"malloc", "realloc", "free", "memcpy", "memmove", "memset", "memcmp",
-          "__cxa_finalize", "__gmon_start__", "_ITM_deregisterTMCloneTable", "_ITM_registerTMCloneTable"}
 
 
 class Tally:
@@ -202,6 +201,14 @@ def compile_c(source, made, link):
                    timeout=STEP_SECONDS)
 
 
+def made_of_c(folder, room):
+    """The library of the module as C, as a caller would compile it."""
+    for name in ("puzzles.c", "puzzles.h"):
+        shutil.copy(folder / name, room)
+    compile_c(room / "puzzles.c", room / "libpuzzles.so", ["-std=c99", "-shared", "-fPIC"])
+    return room / "libpuzzles.so"
+
+
 def run_examples(tally, program, file, folder):
     """The examples beside the program."""
     made = folder / "solve"
@@ -211,18 +218,6 @@ def run_examples(tally, program, file, folder):
             wanted = cases.ask(program, cases.Case("solve", game, text))
             done = subprocess.run([*words, game, text], capture_output=True, check=False, timeout=STEP_SECONDS)
             tally.same(f"{words[-1]} {game} {text[:40]}", (done.returncode, done.stdout.decode()), (wanted.status, wanted.answer))
-
-
-def symbols(tally, file):
-    """What the library defines for others, and what it needs."""
-    for flag, wanted in (("--defined-only", EXPORTS), ("--undefined-only", None)):
-        lines = subprocess.run(["nm", "-D", flag, file], capture_output=True, text=True, check=True, timeout=STEP_SECONDS).stdout
-        names = {line.split()[-1].partition("@")[0] for line in lines.splitlines() if " A " not in line}  # which is the version's
-        tally.same(f"nm {flag}", names if wanted else names - NEEDED, wanted or set())
-        versions = {line.partition("@@")[2] for line in lines.splitlines() if " T " in line}
-        tally.same(f"versions of nm {flag}", versions, {"PUZZLES_0.1"} if wanted else set())
-    told = subprocess.run(["readelf", "-d", file], capture_output=True, text=True, check=True, timeout=STEP_SECONDS).stdout
-    tally.same("the name of the library", re.findall(r"soname: \[(.*)\]", told), ["libpuzzles.so.0"])
 
 
 def times(file, program, all_cases):
@@ -248,6 +243,7 @@ def main():
     form.add_argument("--puzzles", metavar="N", type=int, default=1000)
     form.add_argument("--calls", metavar="N", type=int, default=100_000)
     form.add_argument("--built", metavar="FOLDER", type=pathlib.Path)
+    form.add_argument("--as-c", action="store_true")
     form.add_argument("program", metavar="PROGRAM")
     asked, tally = form.parse_args(), Tally()
     if not os.access(asked.program, os.X_OK) or asked.puzzles < 1 or asked.calls < 5:
@@ -255,10 +251,12 @@ def main():
     program, folder = os.path.abspath(asked.program), (asked.built or TOP / "library" / "out").absolute()
     try:
         if not asked.built:
-            subprocess.run([TOP / "library" / "build.py", "so"], check=True, timeout=BUILD_SECONDS)
-        file, all_cases = folder / "libpuzzles.so", cases.all_cases(program, asked.puzzles)
+            subprocess.run([TOP / "library" / "build.py", "c" if asked.as_c else "so"], check=True, timeout=BUILD_SECONDS)
+        all_cases = cases.all_cases(program, asked.puzzles)
         with tempfile.TemporaryDirectory(prefix="puzzles-library-") as room:
-            parts = {"symbols": lambda: symbols(tally, file), "calls": lambda: compare(tally, file, all_cases),
+            file = made_of_c(folder, pathlib.Path(room)) if asked.as_c else folder / "libpuzzles.so"
+            parts = {"symbols": lambda: library_file.symbols(tally, file, asked.as_c),
+                     "calls": lambda: compare(tally, file, all_cases),
                      "outputs": lambda: fit(tally, file, all_cases), "refusals": lambda: refuse(tally, file),
                      "threads": lambda: compare_in_threads(tally, file, all_cases),
                      "the header": lambda: said_by_header(tally, file, all_cases),
@@ -268,8 +266,8 @@ def main():
                 begun = tally.count
                 part()
                 tally.part(name, begun)
-        memory(tally, file, all_cases, asked.calls)
-        times(file, program, all_cases)
+            memory(tally, file, all_cases, asked.calls)
+            times(file, program, all_cases)
     except (OSError, AttributeError, subprocess.SubprocessError) as fault:
         sys.exit(f"library.py: {fault}")
     except KeyboardInterrupt:

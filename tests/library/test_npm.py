@@ -24,6 +24,28 @@ console.log(JSON.stringify([said, seconds]));
 """
 WANTED = [[0, "one\n##.##\n"], [2, "refused: words\n"], [2, "refused: words\n"], [0, "singles\n"], [2, "refused: words\n"], None,
           [0, "one\nT^\n..\n"], [0, "correct\n"], [2, "refused: words\n"]]
+CLOSED = """
+import { Ended } from "puzzles-module/ended";
+
+const said = [], puzzle = ["pattern", "5x1:1/1//1/1/2.2"], endless = ["solo", "5x6", 1, { budget: 10 ** 9 }];
+const clocks = () => process.getActiveResourcesInfo().filter((name) => name === "Timeout").length;
+for (const options of [{ second: 2 }, { seconds: 0 }, { seconds: NaN }, { seconds: "2" }, { seconds: null }]) {
+  try { new Ended(options); } catch ({ name, message }) { said.push(`${name}: ${message}`); }
+}
+for (const seconds of [Infinity, 10 ** 9, undefined]) said.push((await new Ended({ seconds }).solve(...puzzle)).text);
+const ended = new Ended({ seconds: 600 });
+said.push((await ended.solve("pattern", () => 1)).text, clocks());
+const waiting = Promise.all([ended.generate(...endless), ended.solve(...puzzle)]);
+await ended.solve; // the first one has begun, or waits for its worker
+ended.close();
+said.push(...await waiting, clocks(), (await ended.solve(...puzzle)).text);
+const late = ended.generate(...endless);
+setTimeout(() => ended.close(), 1000);
+said.push(await late, (await ended.check(...puzzle, "##.##\\n")).text, clocks());
+console.log(JSON.stringify(said));
+"""
+OF_CLOSED = ["TypeError: no option second", *(f"TypeError: seconds: {word} is no number over 0" for word in ("0", "NaN", "2", "null")),
+             *["one\n##.##\n"] * 3, "refused: words\n", 0, None, None, 0, "one\n##.##\n", None, "correct\n", 0]
 TYPED = """
 import { Puzzles, type Answer } from "puzzles-module";
 import { Ended } from "puzzles-module/ended";
@@ -68,6 +90,16 @@ def test_used(installed):
     about = json.loads((installed / "node_modules" / "puzzles-module" / "package.json").read_text())
     assert about["version"] == re.search(r"^## (\d+\.\d+\.\d+)", (TOP / "CHANGELOG.md").read_text(), re.M)[1]
     assert all((installed / "node_modules" / "puzzles-module" / name).is_file() for name in about["files"]), "a file is missing"
+
+
+@pytest.mark.needs("node", "npm")
+def test_closed(installed):
+    """what is no clock is told; one may be as long as can be; calls that wait end with their worker, and no clock is left"""
+    done = subprocess.run(["node", "--input-type=module", "-"], input=CLOSED, cwd=installed, capture_output=True, text=True,
+                          check=False, timeout=SECONDS)
+    assert done.returncode == 0, done.stderr
+    assert json.loads(done.stdout) == OF_CLOSED, done.stdout
+    assert not done.stderr, done.stderr
 
 
 @pytest.mark.needs("npm", "tsc")

@@ -36,6 +36,8 @@ not_run=(
     'cc -o solve examples/library/solve.c -I library -L library/out -lpuzzles -Wl,-rpath,"$PWD/library/out"'
     './solve pattern 5x1:1/1//1/1/2.2'
     'PYTHONPATH=python/src examples/library/solve.py pattern 5x1:1/1//1/1/2.2'
+    'library/build.py c'
+    'cc -O2 -o solve examples/library/solve.c library/out/puzzles.c -I library'
     'library/build.py wasm'
     'node examples/library/solve.mjs pattern 5x1:1/1//1/1/2.2'
     "$dask ids.txt solve pattern --budget 20000 > answers.txt"
