@@ -15,9 +15,16 @@ def rows_of(path: pathlib.Path) -> List[Dict[str, str]]:
             rows = csv.DictReader(file)
             if not is_head(rows.fieldnames):
                 raise ValueError
-            return list(rows)
+            return [whole(row, f"{path}:{rows.line_num}") for row in rows]
     except (ValueError, csv.Error):
         raise Fault(f"{path} is no table of a book: it doesn't begin with {','.join(HEAD[:8])}", REFUSED) from None
+
+
+def whole(row: Dict[str, str], place: str) -> Dict[str, str]:
+    """The row, if it has a word for each column and no more."""
+    if None in row or None in row.values():
+        raise Fault(f"{place}: the row has another number of columns than the first line", REFUSED)
+    return row
 
 
 def is_head(names: Optional[Sequence[str]]) -> bool:
