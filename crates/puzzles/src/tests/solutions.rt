@@ -307,23 +307,28 @@ pub fn solves(alloc: Global, game: &str, id: &str, grid: &str) -> Result<bool, F
     }
 }
 
+/// Whether a grid solves the puzzle, or two different ones do that stand with an empty line between them.
+fn are_solutions(alloc: Global, game: &str, id: &str, grids: &str) -> Result<bool, Fail> {
+    let Some((one, other)) = grids.split_once("\n\n") else {
+        return solves(alloc, game, id, grids);
+    };
+    let ended = format!(in alloc; "{one}\n")?;
+    let differ = ended.as_str() != other;
+    Ok(differ && solves(alloc, game, id, &ended)? && solves(alloc, game, id, other)?)
+}
+
 /// Whether each grid that a run with these words printed solves its puzzle: one or two of an ID, and that of a puzzle that
 /// was made.
 pub fn prints_solutions(alloc: Global, words: &[String], text: &str) -> Result<bool, Fail> {
     let (Some(command), Some(game), Some(id)) = (words.first(), words.get(1), words.get(2)) else {
         return Ok(true);
     };
-    let (first, grids) = text.split_once('\n').unwrap_or((text, ""));
+    let Some((first, grids)) = text.split_once('\n') else {
+        return Ok(true);
+    };
     match command.as_str() {
         "generate" if !grids.is_empty() => solves(alloc, game, first, grids),
-        "solve" if !grids.is_empty() => {
-            let (one, other) = grids.split_once("\n\n").unwrap_or((grids, ""));
-            if other.is_empty() {
-                return solves(alloc, game, id, one);
-            }
-            let ended = format!(in alloc; "{one}\n")?;
-            Ok(one != other && solves(alloc, game, id, &ended)? && solves(alloc, game, id, other)?)
-        }
+        "solve" if !grids.is_empty() => are_solutions(alloc, game, id, grids),
         _ => Ok(true),
     }
 }
