@@ -15,7 +15,7 @@
  * `check` makes no search. `solve` makes at most `budget` trials for each ID, and `grade` too. `generate` makes a search for each
  * try, and one for each clue of the puzzle that it hands out: the cells of Solo, the black cells of Light Up. So it makes at most
  * (tries + clues) * budget trials. For a try there is also a walk of at most budget / 10 visits or sweeps. With the program's own
- * budget and tries Solo 5x5 took more than 150 seconds: pass a budget as 1,000.
+ * budget and tries Solo 5x5 took more than 150 seconds, and with a budget of 100 less than two.
  *
  * Where it differs from the program. A text may be any bytes: a size that isn't of UTF-8 is refused as a size here, and the
  * program refuses it as words. A number that is no game's, and more than 100 for `black` in any game, are refused as words.

@@ -1,10 +1,15 @@
 """The folder for npm: installed offline by its path, used by its names in Node, with types, and with calls that a clock ends."""
+import functools
+import http.server
 import json
 import re
 import subprocess
+import threading
+import time
 
 import pytest
 
+from page.driver import Page
 from support.bench import SECONDS, TOP
 
 USE = """
@@ -44,8 +49,28 @@ setTimeout(() => ended.close(), 1000);
 said.push(await late, (await ended.check(...puzzle, "##.##\\n")).text, clocks());
 console.log(JSON.stringify(said));
 """
-OF_CLOSED = ["TypeError: no option second", *(f"TypeError: seconds: {word} is no number over 0" for word in ("0", "NaN", "2", "null")),
+OF_CLOSED = ["TypeError: no option second",
+             *(f"TypeError: seconds: {word} is no number over 0" for word in ("0", "NaN", "2", "null")),
              *["one\n##.##\n"] * 3, "refused: words\n", 0, None, None, 0, "one\n##.##\n", None, "correct\n", 0]
+PAGE = """<!DOCTYPE html><title>puzzles</title>
+<meta http-equiv="Content-Security-Policy" content="default-src 'self'; script-src 'self' 'unsafe-inline' {policy}">
+<script type="importmap">{{ "imports": {{
+  "puzzles-module": "./node_modules/puzzles-module/puzzles.js",
+  "puzzles-module/ended": "./node_modules/puzzles-module/ended.js" }} }}</script>
+<script type="module">
+import {{ Puzzles }} from "puzzles-module";
+import {{ Ended }} from "puzzles-module/ended";
+const told = async (act) => {{ try {{ return await act(); }} catch ({{ message }}) {{ return message; }} }};
+const puzzle = ["pattern", "5x1:1/1//1/1/2.2"], ended = new Ended({{ seconds: 600 }});
+window.said = await Promise.all([
+  told(async () => (await Puzzles.load(fetch("node_modules/puzzles-module/puzzles.wasm"))).solve(...puzzle).text),
+  told(async () => (await ended.solve(...puzzle)).text)]);
+const late = ended.generate("solo", "5x6", 1, {{ budget: 10 ** 9 }}).then(String, ({{ message }}) => message);
+setTimeout(() => ended.close(), 500);
+window.said.push(await late);
+window.isDone = true;
+</script>
+"""
 TYPED = """
 import { Puzzles, type Answer } from "puzzles-module";
 import { Ended } from "puzzles-module/ended";
@@ -100,6 +125,31 @@ def test_closed(installed):
     assert done.returncode == 0, done.stderr
     assert json.loads(done.stdout) == OF_CLOSED, done.stdout
     assert not done.stderr, done.stderr
+
+
+@pytest.mark.slow
+@pytest.mark.needs("npm", "chromium", "chromedriver", "import:selenium")
+@pytest.mark.parametrize("policy", ["'wasm-unsafe-eval'", ""], ids=["allowed", "refused"])
+def test_browser(installed, tmp_path, policy):
+    """a page has both by name, of files that a host serves; with a policy of the page that lets no module in, the page's
+    own call says so, and that of the worker, which has the policy of its own file, is answered"""
+    (installed / "page.html").write_text(PAGE.format(policy=policy))
+    handler = functools.partial(http.server.SimpleHTTPRequestHandler, directory=installed)
+    with http.server.ThreadingHTTPServer(("127.0.0.1", 0), handler) as server:
+        threading.Thread(target=server.serve_forever, daemon=True).start()
+        page = Page(f"http://127.0.0.1:{server.server_port}/", str(tmp_path))
+        try:
+            page.driver.set_page_load_timeout(SECONDS)
+            page.driver.get(f"{page.url}page.html")
+            end = time.monotonic() + SECONDS
+            while time.monotonic() < end and not page.script("return window.isDone"):
+                time.sleep(0.1)
+            solved, ended, late = page.script("return window.said")
+        finally:
+            page.driver.quit()
+            server.shutdown()
+    assert (ended, late) == ("one\n##.##\n", "undefined")
+    assert solved == "one\n##.##\n" if policy else solved.startswith("puzzles.wasm can't be loaded: "), solved
 
 
 @pytest.mark.needs("npm", "tsc")

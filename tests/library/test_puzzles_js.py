@@ -38,8 +38,8 @@ said.push(await load(bytes));
 console.log(JSON.stringify(said));
 """
 ANSWER = "one\n##.##\n"
-OF_LOADED = [ANSWER, ANSWER, 0, 2, ANSWER, ANSWER, 2, "puzzles.wasm can't be loaded:  has status 404", "puzzles.wasm can't be loaded",
-             ANSWER, ANSWER]
+OF_LOADED = [ANSWER, ANSWER, 0, 2, ANSWER, ANSWER, 2, "puzzles.wasm can't be loaded:  has status 404",
+             "puzzles.wasm can't be loaded", ANSWER, ANSWER]
 AFTER = """
 const puzzles = await Puzzles.load(bytes), lines = "\\n".repeat(2_000_000);
 const long = puzzles.solveEach("solo", lines).text, before = count.instances;
