@@ -11,8 +11,8 @@ COUNT = 12  # puzzles of each game
 
 @pytest.mark.needs("cc")
 def test_limited(bench, library):
-    """made puzzles and refused texts have the same answers; 160 endless calls on eight threads are ended, none late by more than
-    50 ms of its processor, and no memory is kept; a call that wants more memory than it may have tells so"""
+    """made puzzles and refused texts have the same answers; 160 endless calls on eight threads are ended, most of them in time by
+    their processor, and no memory is kept; a call that wants more memory than it may have tells so"""
     archive = library.resolve().parent / "libpuzzles_c.a"
     if not archive.is_file():
         pytest.skip("no built libpuzzles_c.a")
