@@ -40,7 +40,7 @@ SCRIPTS = {  # words behind python/run, of Python or of a program, and what it n
     "module": (["tests/library/wasm.py", "--engines=node", "--puzzles=300", "--built=BUILT", "PROGRAM"],
                ["cc", "node", "libpuzzles.so", "puzzles.wasm"]),
 }
-BY_HAND = ("library", "module")  # not seen to pass behind `rt ci` yet: begun by their names, `.ci/around.py STATUS LOG library`
+BY_HAND = ("library", "module")  # `rt lib` proves all crates anew for them; begun by their names, `.ci/around.py STATUS LOG library`
 SECONDS, TESTS_SECONDS, BUILD_SECONDS = 1200, 4800, 7200  # of the processor; ten times what a part takes
 
 
