@@ -1,7 +1,7 @@
 //! Calls that take memory and that no other test makes by themselves: with ample memory each answers what it is to.
 
 ghost use Rattle.std.specs.Prelude.{◌≡◌, ◌∷◌, [], IfOk, ◌≤◌};
-ghost use Rattle.grid_core.specs.Planes.{cells_of};
+ghost use Rattle.grid_core.specs.Planes.{plane_cells};
 
 use crate::grid::grid_of;
 use engine_core::HouseList;
@@ -149,7 +149,7 @@ fn planes_that_lose<W: Word>(alloc: Global) -> Result<[[bool; 4]; 3], AllocError
 
 /// Whether cells 1 and 3 can have 0 and 1.
 fn sets_of<W: Word>(planes: &Planes<W>) -> [bool; 4]
-    requires { cells_of planes.now ≡ 6 }
+    requires { plane_cells planes.now ≡ 6 }
 {
     [
         planes.has(1, 0),

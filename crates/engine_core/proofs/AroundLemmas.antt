@@ -89,7 +89,7 @@ written-more t trace h written fits =
     rw (many, pushed trace h lt, written (omega (arith, lt))) refl
 
 -- and whether the sweep struck anything so far
-pub record IsStriking (p : RuleSystem) (K0 : Candidates) (n from : ℕ) (K : Candidates) (waits : ℕ → Bool) (struck : Bool) : Type 0 where
+pub record IsSweepStriking (p : RuleSystem) (K0 : Candidates) (n from : ℕ) (K : Candidates) (waits : ℕ → Bool) (struck : Bool) : Type 0 where
   pub first : Candidates
   pub amid : IsAmid p K0 n from first K waits
   pub lost : struck ≡ true → HasStruck first K
@@ -173,17 +173,17 @@ module _ (p : RuleSystem) (laws : IsLawful p) (K0 : Candidates) (within : IsWith
         };
       }
 
-  pub striking-next : {n from h : ℕ} {K : Candidates} {waits : ℕ → Bool} {struck : Bool} → IsStriking p K0 n from K waits struck → from ≤ p.houses
+  pub striking-next : {n from h : ℕ} {K : Candidates} {waits : ℕ → Bool} {struck : Bool} → IsSweepStriking p K0 n from K waits struck → from ≤ p.houses
       → (more : ℕ) → (h < from → IsAlive p K) → IsQueuedAround waits p.houses from (Some h) → more ≡ from_bool (ltb h from)
-      → IsStriking p K0 (n + more) h K waits (struck && not (ltb h from))
+      → IsSweepStriking p K0 (n + more) h K waits (struck && not (ltb h from))
   striking-next {from} {h} {K} {struck} s past more alive around counts = elim (amid-next s.amid past more alive around counts) [
     | inl here ↦ rw (le-ltb h from here.0, and-true struck) (record { first = s.first; amid = here.1; lost = s.lost; same = s.same })
     | inr new ↦ rw (lt-ltb h from new.0, and-false struck) (record { first = K; amid = new.1; lost = λ e. absurd (true≢false (sym e)); same = λ _. refl })
   ]
 
-  pub striking-turn : {n h : ℕ} {K K' : Candidates} {waits waits' : ℕ → Bool} {struck now : Bool} → IsStriking p K0 n h K waits struck
+  pub striking-turn : {n h : ℕ} {K K' : Candidates} {waits waits' : ℕ → Bool} {struck now : Bool} → IsSweepStriking p K0 n h K waits struck
       → h < p.houses → K' ≡ after p h K → ((j : ℕ) → j < p.houses → waits' j ≡ (now || but waits h j)) → (now ≡ false → K' ≡ K)
-      → (now ≡ true → HasStruck K K') → IsStriking p K0 n (h + 1) K' waits' (struck || now)
+      → (now ≡ true → HasStruck K K') → IsSweepStriking p K0 n (h + 1) K' waits' (struck || now)
   striking-turn {h} {now = now} s lt e marks idle lost = record {
     first = s.first;
     amid = amid-turn s.amid lt e (all-marked p now e idle lost marks);
@@ -192,7 +192,7 @@ module _ (p : RuleSystem) (laws : IsLawful p) (K0 : Candidates) (within : IsWith
   }
 
   -- the sweep is at its end: where it struck nothing it counts only as the first
-  striking-end : {n from : ℕ} {K : Candidates} {waits : ℕ → Bool} (struck dead : Bool) → IsStriking p K0 n from K waits struck → from ≤ p.houses
+  striking-end : {n from : ℕ} {K : Candidates} {waits : ℕ → Bool} (struck dead : Bool) → IsSweepStriking p K0 n from K waits struck → from ≤ p.houses
       → p.by_queue ≡ false → is_dead p.cells p.values K ≡ dead → (dead ≡ true → (h : ℕ) → from ≤ h → h < p.houses → waits h ≡ false)
       → (dead ≡ false → (h : ℕ) → h < p.houses → waits h ≡ false)
       → IsClosing p K0 K (if dead then Dead else Open) [] (max (n - from_bool (not struck)) 1)
@@ -213,7 +213,7 @@ module _ (p : RuleSystem) (laws : IsLawful p) (K0 : Candidates) (within : IsWith
   -- the answer of a closing whose turns are visits of a queue, or else sweeps
   pub exact-end : {turns from : ℕ} {waits : ℕ → Bool} (queue struck dead : Bool) (closer : BoardAndMarks) (taken : Taken) → p.by_queue ≡ queue
       → (p.by_queue ≡ true → IsQueuedBy p K0 turns closer.trace (has closer.board) waits dead)
-      → (p.by_queue ≡ false → IsStriking p K0 turns from (has closer.board) waits struck)
+      → (p.by_queue ≡ false → IsSweepStriking p K0 turns from (has closer.board) waits struck)
       → from ≤ p.houses → is_dead p.cells p.values (has closer.board) ≡ dead
       → (dead ≡ true → p.by_queue ≡ false → (h : ℕ) → from ≤ h → h < p.houses → waits h ≡ false)
       → (dead ≡ false → (h : ℕ) → h < p.houses → waits h ≡ false)

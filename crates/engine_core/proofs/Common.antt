@@ -72,7 +72,7 @@ pub use Rattle.engine_core.specs.Frames.{Level}
 unfoldable pub use Rattle.engine_core.specs.Frames.{branches_from, pending}
 pub use Rattle.engine_core.specs.Sets.{IsBitsOf, IsChange, has_bit}
 pub use Rattle.engine_core.specs.Stored.{IsAnswer, is_settled}
-pub use Rattle.engine_core.specs.Trail.{AreLost, IsTrail, IsTrailLonger, Trail, back_at, before_changes, change_at, given_back, is_since}
+pub use Rattle.engine_core.specs.Trail.{AreLost, IsTrail, IsTrailLonger, Trail, trail_back_at, before_changes, change_at, given_back, is_since}
 unfoldable pub use Rattle.engine_core.specs.Trail.{left_by}
 pub use Rattle.engine_core.specs.Trail.{GoesOn, IsAlong, Placed, board_in}
 unfoldable pub use Rattle.engine_core.specs.Counts.{trials_of}

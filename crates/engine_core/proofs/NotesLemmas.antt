@@ -5,7 +5,7 @@ use Rattle.std.specs.List.{range_with_len}
 use Rattle.std.proofs.lemmas.List.{get_or-take, length-take-le}
 use Rattle.std.proofs.lemmas.List.FromFn.{get_or-range_with_len, length-range_with_len}
 use Rattle.engine_core.specs.Notes.{IsMarkedOut, KeepsOnly, SameBut}
-use Rattle.engine_core.specs.Trail.{back_at}
+use Rattle.engine_core.specs.Trail.{trail_back_at}
 use Rattle.grid_core.proofs.BoardLemmas.{count_below-few, count_below-pos, least_below-passes}
 use Rattle.grid_core.proofs.TakingLemmas.{put_back-last, put_back-none}
 use Rattle.engine_core.proofs.TrailLemmas.{kept-none, upto-all}
@@ -63,7 +63,7 @@ given-but : (K : Candidates) (change : ℕ × ℕ) → SameBut change.0 K (given
 unfolding with_set
 given-but K change c v other = grind (arith, common_steps, cases_Bool, ne_eqb)
 
-pub last-but : (t : Trail) (n : ℕ) → n + 1 ≡ t.len → SameBut (change_at t.changes n).0 (has t.board) (back_at t n)
+pub last-but : (t : Trail) (n : ℕ) → n + 1 ≡ t.len → SameBut (change_at t.changes n).0 (has t.board) (trail_back_at t n)
 last-but t n e =
     let last : before_changes (has t.board) t.changes n t.len ≡ given_back (has t.board) (change_at t.changes n) =
     rw (← e) (put_back-last given_back (0, 0) (has t.board) t.changes n n (omega arith) ∙ put_back-none given_back (0, 0) (given_back (has t.board) (change_at t.changes n)) t.changes n n (omega arith)) in

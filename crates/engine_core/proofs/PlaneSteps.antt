@@ -1,7 +1,7 @@
 -- Planes as a position: what a step leaves.
 use Rattle.engine_core.proofs.Common.{AreUnderWay, Candidates, IsAlive, IsInside, IsLawful, IsOnward, List, None, PlacedPlanes, RuleSystem, ap, arith, cases_eq, common_steps, count_below-pos, false_from_ne_true, grid_of, is_dead-each, is_dead-inside, is_dead-not, is_full, length, only, only-here, only-other, pick, word_places, refl, standing_on_planes, sym, true, true≢false, within_inside, ℕ, ◌*◌, ◌<◌, ◌∙◌, ◌≡◌, ◌≤◌, ◌⊎◌}
 use Rattle.grid_core.specs.Extent.{Extent}
-use Rattle.grid_core.specs.Planes.{IsBack, IsFurther, Layers, back_at, cells_of, has}
+use Rattle.grid_core.specs.Planes.{IsBack, IsFurther, Layers, back_at, plane_cells, planes_have}
 use Rattle.grid_core.proofs.PlaneSteps.{pick-few, pick-none}
 use Rattle.engine_core.specs.PlaneNotes.{IsLiveBoard, IsSuited}
 use Rattle.engine_core.specs.RuleSystem.{FitsIn, IsClosed, IsClosedGrid, needs_of}
@@ -25,7 +25,7 @@ step-onward s p' kept further = record { inside = further.inside; grows = furthe
 module _ {S L : Type 0} {p : RuleSystem} {size : Extent} {is_own : S ⊎ L → Type 0} (s : PlacedPlanes S L) where
   -- the planes have another board inside the start, and it has a value in each cell
   walks : (p' : Layers) (kept : S ⊎ L) → AreUnderWay p size is_own s → p'.size ≡ s.planes.size → word_places kept ≡ word_places s.kept → is_own kept
-      → IsLiveBoard p (has p') → AreUnderWay p size is_own (record s { planes = p'; kept = kept })
+      → IsLiveBoard p (planes_have p') → AreUnderWay p size is_own (record s { planes = p'; kept = kept })
   walks p' kept under same words is board = record {
     fits = under.fits;
     own = is;
@@ -38,7 +38,7 @@ module _ {S L : Type 0} {p : RuleSystem} {size : Extent} {is_own : S ⊎ L → T
   }
 
   -- values were taken
-  pub step-walks : (p' : Layers) (kept : S ⊎ L) → AreUnderWay p size is_own s → IsFurther s.planes p' → IsAlive p (has p')
+  pub step-walks : (p' : Layers) (kept : S ⊎ L) → AreUnderWay p size is_own s → IsFurther s.planes p' → IsAlive p (planes_have p')
       → word_places kept ≡ word_places s.kept → is_own kept → AreUnderWay p size is_own (record s { planes = p'; kept = kept })
   step-walks p' kept under further alive words is = walks p' kept under further.same_size words is (record {
     alive = alive;
@@ -47,25 +47,25 @@ module _ {S L : Type 0} {p : RuleSystem} {size : Extent} {is_own : S ⊎ L → T
   })
 
   pub leave-walks : (p' : Layers) (cell v : ℕ) → AreUnderWay p size is_own s → IsFurther s.planes p' → v < p.values
-      → has s.planes cell v ≡ true → has p' ≡ only (has s.planes) cell v → AreUnderWay p size is_own (record s { planes = p' })
+      → planes_have s.planes cell v ≡ true → planes_have p' ≡ only (planes_have s.planes) cell v → AreUnderWay p size is_own (record s { planes = p' })
   leave-walks p' cell v under further lt on left =
-      step-walks p' s.kept under further (rw left (leave-alive p (has s.planes) cell v under.board.board.alive lt on)) refl under.own
+      step-walks p' s.kept under further (rw left (leave-alive p (planes_have s.planes) cell v under.board.board.alive lt on)) refl under.own
 
   -- the board was taken back, inside the start
   pub undo-walks : (p' : Layers) (m : ℕ) → IsLawful p → AreUnderWay p size is_own s → IsInside (back_at s.planes m) p.start → IsBack s.planes p' m
       → AreUnderWay p size is_own (record s { planes = p' })
   undo-walks p' m laws under start back =
-      let inside : IsInside (has p') p.start = rw back.here start in
+      let inside : IsInside (planes_have p') p.start = rw back.here start in
       walks p' s.kept under back.same_size refl under.own (record {
         alive = false_from_ne_true _ (λ dead.
-            true≢false (sym (is_dead-inside p.cells p.values (has s.planes) (has p') back.regained dead) ∙ under.board.board.alive));
+            true≢false (sym (is_dead-inside p.cells p.values (planes_have s.planes) (planes_have p') back.regained dead) ∙ under.board.board.alive));
         within = within_inside _ _ _ _ laws.start_within inside;
         inside = inside;
       })
 
   -- a board to begin with
   pub start-walks : IsLawful p → IsAlive p p.start → FitsIn (needs_of p) s.made → s.planes.size ≡ size → size.w * size.h ≡ p.cells
-      → IsSuited size (word_places s.kept) → is_own s.kept → has s.planes ≡ p.start → AreUnderWay p size is_own s
+      → IsSuited size (word_places s.kept) → is_own s.kept → planes_have s.planes ≡ p.start → AreUnderWay p size is_own s
   start-walks laws alive fits same few suited is start = record {
     fits = fits;
     own = is;
@@ -78,10 +78,10 @@ module _ {S L : Type 0} {p : RuleSystem} {size : Extent} {is_own : S ⊎ L → T
   }
 
   -- the grid of a full board
-  module _ {grid : List ℕ} (under : AreUnderWay p size is_own s) (two : p.values ≡ 2) (written : grid ≡ grid_of (cells_of s.planes) 2 (has s.planes)) where
-    pub walks-closed : IsLawful p → IsClosed p (has s.planes) → is_full p.cells p.values (has s.planes) ≡ true → IsClosedGrid p grid
+  module _ {grid : List ℕ} (under : AreUnderWay p size is_own s) (two : p.values ≡ 2) (written : grid ≡ grid_of (plane_cells s.planes) 2 (planes_have s.planes)) where
+    pub walks-closed : IsLawful p → IsClosed p (planes_have s.planes) → is_full p.cells p.values (planes_have s.planes) ≡ true → IsClosedGrid p grid
     walks-closed laws closed full =
         closed-grid laws under.board.board.within under.board.board.inside closed full under.board.cells (sym two) written
 
     pub walks-long : length grid ≡ p.cells
-    walks-long = grid-long p (has s.planes) grid (cells_of s.planes) 2 under.board.cells written
+    walks-long = grid-long p (planes_have s.planes) grid (plane_cells s.planes) 2 under.board.cells written

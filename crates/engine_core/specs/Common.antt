@@ -27,7 +27,7 @@ unfoldable pub use Rattle.engine_core.specs.RuleSystem.{after, has_place, longes
 pub use Rattle.engine_core.specs.Sets.{IsBitsOf, has_bit}
 unfoldable pub use Rattle.engine_core.specs.Sets.{set_of_bits}
 pub use Rattle.engine_core.specs.Stored.{IsClosingOf, IsAnswerOf, IsUnsearched, Stored, is_settled, sizes_of}
-pub use Rattle.engine_core.specs.Trail.{AreKeptOutside, AreRising, KeepsChanges, IsTrailBack, IsTrailLonger, IsHouseStruck, IsTrail, Trail, back_at, change_at}
+pub use Rattle.engine_core.specs.Trail.{AreKeptOutside, AreRising, KeepsChanges, IsTrailBack, IsTrailLonger, IsHouseStruck, IsTrail, Trail, trail_back_at, change_at}
 unfoldable pub use Rattle.engine_core.specs.Trail.{left_by}
 pub use Rattle.engine_core.specs.Trail.{AreHousesRested, AreRestedBut, AreWokenSince, GoesOn, IsAlong, IsPlaced, IsPlainPlaced, IsStep, IsTrailUnderWay, Placed, board_in, no_notes, standing_of}
 pub use Rattle.engine_core.specs.Verdict.{HasTwo, IsTrueOf, Solves, said_by_counts, spent_by_counts, spent_of, tried_of, verdict_of}

@@ -1,7 +1,7 @@
 -- What rules keep beside planes, and the boards that are closed on these.
 use Rattle.std.specs.Prelude.{◌≡◌, ℕ, ◌≤◌}
 use Rattle.engine_core.specs.Below.{Candidates, Extent, IsInside, IsWithin}
-use Rattle.grid_core.specs.Planes.{Layers, cells_of, has}
+use Rattle.grid_core.specs.Planes.{Layers, plane_cells, planes_have}
 use Rattle.engine_core.specs.ClosingList.{IsAlive}
 use Rattle.engine_core.specs.Keeping.{StillServes}
 use Rattle.engine_core.specs.RuleSystem.{RuleSystem, Needs}
@@ -25,5 +25,5 @@ pub record IsLiveBoard (p : RuleSystem) (K : Candidates) : Type 0 where
 pub record HasBoard (p : RuleSystem) (size : Extent) (places : ℕ) (planes : Layers) : Type 0 where
   pub suited : IsSuited size places
   pub same_size : planes.size ≡ size
-  pub cells : cells_of planes ≡ p.cells
-  pub board : IsLiveBoard p (has planes)
+  pub cells : plane_cells planes ≡ p.cells
+  pub board : IsLiveBoard p (planes_have planes)

@@ -1,7 +1,7 @@
 -- Planes with their trail as a position. No public contract uses these words.
 use Rattle.std.specs.Prelude.{◌≡◌, ℕ, ◌*◌, ◌⊎◌, Option, Some, None, length}
 use Rattle.engine_core.specs.Below.{Extent, inl, inr}
-use Rattle.grid_core.specs.Planes.{Layers, back_at, has}
+use Rattle.grid_core.specs.Planes.{Layers, back_at, planes_have}
 use Rattle.engine_core.specs.Needs.{needs_in}
 use Rattle.engine_core.specs.PlaneNotes.{HasBoard}
 use Rattle.engine_core.specs.Position.{Standing}
@@ -65,7 +65,7 @@ pub record PlacedPlanes (S L : Type 0) : Type 0 where
 
 -- what a walk sees of it
 abbrev pub standing_on_planes : {S L : Type 0} → PlacedPlanes S L → Standing
-standing_on_planes s = record { board = has s.planes; len = s.planes.len; back = back_at s.planes }
+standing_on_planes s = record { board = planes_have s.planes; len = s.planes.len; back = back_at s.planes }
 
 -- a walk is under way, on planes of that size, and what is kept is of the rules
 pub record AreUnderWay {S L : Type 0} (p : RuleSystem) (size : Extent) (is_own : S ⊎ L → Type 0)

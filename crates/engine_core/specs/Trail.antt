@@ -32,8 +32,8 @@ pub record Trail : Type 0 where
   pub len : ℕ
 
 -- the board that a mark gives back
-abbrev pub back_at : Trail → ℕ → Candidates
-back_at t mark = before_changes (has t.board) t.changes mark t.len
+abbrev pub trail_back_at : Trail → ℕ → Candidates
+trail_back_at t mark = before_changes (has t.board) t.changes mark t.len
 
 -- the changes are of cells and values of the board, and there is room for as many as can come
 pub record IsTrail (cells values : ℕ) (K : Candidates) (changes : List (ℕ × ℕ))
@@ -50,15 +50,15 @@ pub record IsTrailLonger (from to : Trail) : Type 0 where
   pub same_room : length to.changes ≡ length from.changes
   pub inside : IsInside (has to.board) (has from.board)
   pub grows : from.len ≤ to.len
-  pub back : (mark : ℕ) → mark ≤ from.len → back_at to mark ≡ back_at from mark
+  pub back : (mark : ℕ) → mark ≤ from.len → trail_back_at to mark ≡ trail_back_at from mark
 
 -- the trail was taken back to the mark: each earlier mark gives back the same
 pub record IsTrailBack (from to : Trail) (mark : ℕ) : Type 0 where
   pub shape : SameShape from.board to.board
   pub same_room : length to.changes ≡ length from.changes
-  pub here : has to.board ≡ back_at from mark
+  pub here : has to.board ≡ trail_back_at from mark
   pub len : to.len ≡ mark
-  pub back : (earlier : ℕ) → earlier ≤ mark → back_at to earlier ≡ back_at from earlier
+  pub back : (earlier : ℕ) → earlier ≤ mark → trail_back_at to earlier ≡ trail_back_at from earlier
 
 -- the changes since the first trail are those of the first n cells of h that lost a value
 pub record AreLost (p : RuleSystem) (h n : ℕ) (from to : Trail) : Type 0 where
@@ -158,7 +158,7 @@ IsStep p h from to false =
 
 -- ---- what a walk sees of it
 abbrev pub standing_of : {N : Type 0} → Placed N → Standing
-standing_of s = record { board = board_in s; len = s.trail.len; back = back_at s.trail }
+standing_of s = record { board = board_in s; len = s.trail.len; back = trail_back_at s.trail }
 
 -- a walk is under way, inside the start
 pub record IsTrailUnderWay {N : Type 0} (are_true : Candidates → N → Type 0) (p : RuleSystem)

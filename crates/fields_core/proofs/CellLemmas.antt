@@ -1,5 +1,5 @@
 -- Pieces of lines, words of rows, and the cells that they have.
-use Rattle.fields_core.proofs.Common.{AreDistinct, AreRowsOf, Bool, Column, Extent, IsHouse, IsHouseOfPieces, IsRowOf, Layers, Line, List, Row, ℕ, [], and-false, and_from, and_parts, any_below, ap, arith, at_line, bit_of, cases_Bool, cases_eq, cases_lt, column_places, common_steps, cond, count_below, count_below-none, count_below-same, count_by, crosses, div-add-mod', div-mul-add, eq-eqb, eqb, eqb-true, exactly, false, false_from_ne_true, get_or, get_or-map, get_or-map-range_with_len, get_or-set_other, get_or-set_same, has, has_bit, has_place, has_place-at, has_place-here, inl, inr, le-ltb, length, length-map, length-map-range_with_len, lies_in, lies_in_first, line_len, lines_beside, list_any-append, lt-ltb, ltb, ltb-true, map, map-set, mod-lt, ne_eqb, number_of, or-false, or-true, place-column, range_with_len, refl, row_places, set, slice_index, suc, sum_by-cons, sym, true, true≢false, zero, ◌%◌, ◌&&◌, ◌*◌, ◌++◌, ◌+◌, ◌/◌, ◌<◌, ◌||◌, ◌∙◌, ◌∷◌, ◌≡◌, ◌≢◌, ◌≤◌, ◌⊎◌}
+use Rattle.fields_core.proofs.Common.{AreDistinct, AreRowsOf, Bool, Column, Extent, IsHouse, IsHouseOfPieces, IsRowOf, Layers, Line, List, Row, ℕ, [], and-false, and_from, and_parts, any_below, ap, arith, at_line, bit_of, cases_Bool, cases_eq, cases_lt, column_places, common_steps, cond, count_below, count_below-none, count_below-same, count_by, crosses, div-add-mod', div-mul-add, eq-eqb, eqb, eqb-true, exactly, false, false_from_ne_true, get_or, get_or-map, get_or-map-range_with_len, get_or-set_other, get_or-set_same, planes_have, has_bit, has_place, has_place-at, has_place-here, inl, inr, le-ltb, length, length-map, length-map-range_with_len, lies_in, lies_in_first, line_len, lines_beside, list_any-append, lt-ltb, ltb, ltb-true, map, map-set, mod-lt, ne_eqb, number_of, or-false, or-true, place-column, range_with_len, refl, row_places, set, slice_index, suc, sum_by-cons, sym, true, true≢false, zero, ◌%◌, ◌&&◌, ◌*◌, ◌++◌, ◌+◌, ◌/◌, ◌<◌, ◌||◌, ◌∙◌, ◌∷◌, ◌≡◌, ◌≢◌, ◌≤◌, ◌⊎◌}
 
 -- Pieces of lines, and the cells that they have.
 
@@ -141,8 +141,8 @@ line-count size (Column x) bits room lt fits within =
 
 -- the cells at those of some places of a line at which the value can be
 pub crosses-both : (p : Layers) (line : Line) (bits there v c : ℕ) → v < 2 → ((k : ℕ) → has_bit there k ≡ (at_line p line v k && has_bit bits k))
-    → crosses line there (c / p.size.w) (c % p.size.w) ≡ (crosses line bits (c / p.size.w) (c % p.size.w) && has p c v)
-unfolding crosses has
+    → crosses line there (c / p.size.w) (c % p.size.w) ≡ (crosses line bits (c / p.size.w) (c % p.size.w) && planes_have p c v)
+unfolding crosses planes_have
 crosses-both p (Row n) bits there v c lt is = grind (arith, common_steps, cases_Bool, lt-ltb v 2, cases_eq (c / p.size.w) n, eq-eqb, ne_eqb, is (c % p.size.w))
 crosses-both p (Column n) bits there v c lt is = grind (arith, common_steps, cases_Bool, lt-ltb, cases_eq, eq-eqb, ne_eqb)
 
@@ -160,8 +160,8 @@ place-count test (x ∷ places) cells (alone, distinct) within =
     ∙ sym (count-apart (eqb x) (has_place places) test cells (λ c lt here more. true≢false (sym more ∙ rw (sym (eqb-true _ _ here)) alone))))
 
 -- Words of the cells of rows, and of places that pass.
-pub has-at : (q : Layers) (y u v : ℕ) {w : ℕ} → q.size.w ≡ w → u < w → v < 2 → has q (y * w + u) v ≡ bit_of q.rows y v u
-unfolding has
+pub has-at : (q : Layers) (y u v : ℕ) {w : ℕ} → q.size.w ≡ w → u < w → v < 2 → planes_have q (y * w + u) v ≡ bit_of q.rows y v u
+unfolding planes_have
 has-at q y u v same lt low = rw (same, div-mul-add y _ u lt, place-column _ y u lt, lt-ltb _ _ low) refl
 
 -- ---- a word of the first places that pass

@@ -33,8 +33,8 @@ pub use Rattle.grid_core.specs.Candidates.{Candidates, IsInside, IsWithin, max_c
 unfoldable pub use Rattle.grid_core.specs.Candidates.{all_below, all_of, any_below, count_below, is_dead, least_below, total, without}
 pub use Rattle.grid_core.specs.Extent.{Extent}
 pub use Rattle.grid_core.specs.Grids.{IsGrid}
-pub use Rattle.grid_core.specs.Planes.{AreLinesOf, ArePlanes, IsFurther, IsLostIn, Layers, at_line, back_at, cells_of, line_len, lines_beside, number_of}
-unfoldable pub use Rattle.grid_core.specs.Planes.{bit_of, covers, crosses, has, without_taking}
+pub use Rattle.grid_core.specs.Planes.{AreLinesOf, ArePlanes, IsFurther, IsLostIn, Layers, at_line, back_at, plane_cells, line_len, lines_beside, number_of}
+unfoldable pub use Rattle.grid_core.specs.Planes.{bit_of, covers, crosses, planes_have, without_taking}
 pub use Rattle.grid_core.specs.Regions.{beside, column_places, if_there, row_places}
 unfoldable pub use Rattle.grid_core.specs.Regions.{step, steps}
 pub use Rattle.grid_core.specs.Words.{IsLeast, has_bit}

@@ -1,5 +1,5 @@
 -- Houses of a kind, visited in any order.
-use Rattle.fields_core.proofs.Common.{AllByRecursion, AreDistinct, AreIdle, ArePlanesAlive, AreVisited, Bool, Candidates, CountHouse, IsHouse, IsInside, IsLeast, Layers, List, [], after_house, after_visits, and-true, and_from, and_parts, ap, arith, cases_Bool, cells_of, common_steps, count_by, distinct-from, eq-eqb, eqb, eqb-true, false, false_from_ne_true, false≢true, fun_ext, has, has_place, houses_below, inl, inr, list_any, lt-ltb, ltb, ltb-false, ltb-true, not, not-true, or_cases, or_left, or_parts, or_right, refl, sym, true, true≢false, ℕ, ◌&&◌, ◌<◌, ◌||◌, ◌∙◌, ◌∷◌, ◌≡◌, ◌≢◌, ◌≤◌, ◌⊎◌}
+use Rattle.fields_core.proofs.Common.{AllByRecursion, AreDistinct, AreIdle, ArePlanesAlive, AreVisited, Bool, Candidates, CountHouse, IsHouse, IsInside, IsLeast, Layers, List, [], after_house, after_visits, and-true, and_from, and_parts, ap, arith, cases_Bool, plane_cells, common_steps, count_by, distinct-from, eq-eqb, eqb, eqb-true, false, false_from_ne_true, false≢true, fun_ext, planes_have, has_place, houses_below, inl, inr, list_any, lt-ltb, ltb, ltb-false, ltb-true, not, not-true, or_cases, or_left, or_parts, or_right, refl, sym, true, true≢false, ℕ, ◌&&◌, ◌<◌, ◌||◌, ◌∙◌, ◌∷◌, ◌≡◌, ◌≢◌, ◌≤◌, ◌⊎◌}
 use Rattle.fields_core.proofs.VisitLemmas.{IsBinaryAlive, IsOneAtMost, after-inside, sweep-first, sweep-more, visits-met, visits-two, zeros_of}
 unfoldable use Rattle.fields_core.proofs.VisitLemmas.{is_met, without_met}
 use Rattle.fields_core.proofs.PlaceLists.{any-here, any-some, count-cons, num, some-counted}
@@ -95,29 +95,29 @@ few-of cells K (house ∷ houses) (is, each) none =
 
 -- ---- visits in another order
 module _ (some all : List CountHouse) (from to : Layers) (fills : Bool) (alive : ArePlanesAlive from)
-    (each_some : AllByRecursion (IsSingle (cells_of from)) some) (each_all : AllByRecursion (IsSingle (cells_of from)) all)
+    (each_some : AllByRecursion (IsSingle (plane_cells from)) some) (each_all : AllByRecursion (IsSingle (plane_cells from)) all)
     (same : AreSameHouses some all) (visited : AreVisited some from to fills) where
   abbrev cells : ℕ
-  cells = cells_of from
+  cells = plane_cells from
 
-  full : IsBinaryAlive cells (has from)
+  full : IsBinaryAlive cells (planes_have from)
   full = record { low = value-in from; some = alive }
 
   two : (houses : List CountHouse) → AllByRecursion (IsSingle cells) houses → (d e v : ℕ) → d ≢ e
       → list_any (λ house. has_place house.places d && has_place house.places e) houses ≡ true
-      → has from d 0 ≡ false → has from e 0 ≡ false → v < 2 → after_visits houses (has from) d v ≡ false
+      → planes_have from d 0 ≡ false → planes_have from e 0 ≡ false → v < 2 → after_visits houses (planes_have from) d v ≡ false
   two houses each d e v ne on off_d off_e low =
-      visits-two cells houses (has from) d e v
+      visits-two cells houses (planes_have from) d e v
       (each-more (IsSingle cells) (λ house. IsHouse cells house × (house.most ≡ 1)) houses (λ house is. (is.is, is.most_is)) each)
       ne on off_d off_e low
 
-  dead : (c : ℕ) → c < cells → ((v : ℕ) → v < 2 → has to c v ≡ false) → ⊥
+  dead : (c : ℕ) → c < cells → ((v : ℕ) → v < 2 → planes_have to c v ≡ false) → ⊥
   dead c lt none = grind (arith, common_steps)
 
   -- a house has two cells that must be ones
-  broken : list_any (many_in (has from)) some ≡ true → AreVisited all from to fills
+  broken : list_any (many_in (planes_have from)) some ≡ true → AreVisited all from to fills
   broken many =
-      let w = pair-of cells (has from) some each_some many in
+      let w = pair-of cells (planes_have from) some each_some many in
       record {
         left = λ e. absurd (dead w.0 w.2 (λ v low. ap (λ (L : Candidates). L w.0 v) (visited.left e) ∙ two some each_some w.0 w.1 v w.3 w.6 w.4 w.5 low));
         dies = λ e. (
@@ -130,15 +130,15 @@ module _ (some all : List CountHouse) (from to : Layers) (fills : Bool) (alive :
         further = visited.further;
       }
 
-  met : (houses : List CountHouse) → AllByRecursion (IsSingle cells) houses → list_any (many_in (has from)) houses ≡ false
-      → after_visits houses (has from) ≡ without_met houses (has from)
-  met houses each none = visits-met houses (has from) full (few-of cells (has from) houses each none)
+  met : (houses : List CountHouse) → AllByRecursion (IsSingle cells) houses → list_any (many_in (planes_have from)) houses ≡ false
+      → after_visits houses (planes_have from) ≡ without_met houses (planes_have from)
+  met houses each none = visits-met houses (planes_have from) full (few-of cells (planes_have from) houses each none)
 
   -- no house has two
-  whole : list_any (many_in (has from)) some ≡ false → AreVisited all from to fills
+  whole : list_any (many_in (planes_have from)) some ≡ false → AreVisited all from to fills
   unfolding without_met
   whole none =
-      let as_some = met some each_some none in let as_all = met all each_all (sym (same (many_in (has from))) ∙ none) in
+      let as_some = met some each_some none in let as_all = met all each_all (sym (same (many_in (planes_have from))) ∙ none) in
       record {
         left = λ e. visited.left e ∙ as_some ∙ moved ∙ sym as_all;
         dies = λ e. let w = visited.dies e in absurd (living w.0 (alive w.0 w.1)
@@ -147,19 +147,19 @@ module _ (some all : List CountHouse) (from to : Layers) (fills : Bool) (alive :
         further = visited.further;
       }
     where
-      moved : without_met some (has from) ≡ without_met all (has from)
+      moved : without_met some (planes_have from) ≡ without_met all (planes_have from)
       moved = grind (arith, common_steps)
 
-      living : (c : ℕ) → (has from c 0 ≡ true) ⊎ (has from c 1 ≡ true) → ((v : ℕ) → v < 2 → without_met some (has from) c v ≡ false) → ⊥
-      living c value off = by (list_any (λ house. is_met (zeros_of (has from)) house c) some) (off 0 (omega arith)) (off 1 (omega arith)) value
+      living : (c : ℕ) → (planes_have from c 0 ≡ true) ⊎ (planes_have from c 1 ≡ true) → ((v : ℕ) → v < 2 → without_met some (planes_have from) c v ≡ false) → ⊥
+      living c value off = by (list_any (λ house. is_met (zeros_of (planes_have from)) house c) some) (off 0 (omega arith)) (off 1 (omega arith)) value
         where
-          by : (any : Bool) → (has from c 0 && not (false && (has from c 0 && any))) ≡ false
-              → (has from c 1 && not (true && (has from c 0 && any))) ≡ false
-              → (has from c 0 ≡ true) ⊎ (has from c 1 ≡ true) → ⊥
-          by any zero one value = grind (arith, common_steps, cases_Bool (has from c 0), cases_Bool (has from c 1), cases_Bool any)
+          by : (any : Bool) → (planes_have from c 0 && not (false && (planes_have from c 0 && any))) ≡ false
+              → (planes_have from c 1 && not (true && (planes_have from c 0 && any))) ≡ false
+              → (planes_have from c 0 ≡ true) ⊎ (planes_have from c 1 ≡ true) → ⊥
+          by any zero one value = grind (arith, common_steps, cases_Bool (planes_have from c 0), cases_Bool (planes_have from c 1), cases_Bool any)
 
   pub visited-any-order : AreVisited all from to fills
-  visited-any-order = elim (cases_Bool (list_any (many_in (has from)) some)) [ inl many ↦ broken many | inr none ↦ whole none ]
+  visited-any-order = elim (cases_Bool (list_any (many_in (planes_have from)) some)) [ inl many ↦ broken many | inr none ↦ whole none ]
 
 -- ---- visits that take nothing
 -- the cells of a house have 0 in both boards, or in neither
@@ -246,38 +246,38 @@ singles-quiet cells = record { different = λ house is. is.is.different; keeps =
 pub alls-quiet : (cells : ℕ) → AreQuiet cells (IsAll cells)
 alls-quiet cells = record { different = λ house is. is.is.different; keeps = all-keeps cells }
 
-alive-full : {cells : ℕ} (s : Layers) → cells_of s ≡ cells → ArePlanesAlive s → IsBinaryAlive cells (has s)
+alive-full : {cells : ℕ} (s : Layers) → plane_cells s ≡ cells → ArePlanesAlive s → IsBinaryAlive cells (planes_have s)
 alive-full s size alive = record { low = value-in s; some = λ c lt. alive c (rw size lt) }
 
 module _ {cells : ℕ} {Is : CountHouse → Type 0} (quiet : AreQuiet cells Is) (f : ℕ → List CountHouse) {n : ℕ}
-    (each : (k : ℕ) → k < n → AllByRecursion Is (f k)) {from to : Layers} (size : cells_of from ≡ cells) (alive : ArePlanesAlive from) where
+    (each : (k : ℕ) → k < n → AllByRecursion Is (f k)) {from to : Layers} (size : plane_cells from ≡ cells) (alive : ArePlanesAlive from) where
   -- ---- lists of such houses, visited one after another on planes
   module _ {m : ℕ} (le : m ≤ n) (visited : AreVisited (houses_below f m) from to true) where
     those : AllByRecursion Is (houses_below f m)
     those = all-houses Is f m (λ k lt. each k (omega arith))
 
-    before : IsBinaryAlive cells (has from)
+    before : IsBinaryAlive cells (planes_have from)
     before = alive-full from size alive
 
-    after : IsBinaryAlive cells (after_visits (houses_below f m) (has from))
+    after : IsBinaryAlive cells (after_visits (houses_below f m) (planes_have from))
     after = rw (visited.left refl) at (alive-full {cells = cells} to (rw (visited.further.same_size) size) visited.alive)
 
-    pub quiet-stays : (others : List CountHouse) → AllByRecursion Is others → AreIdle others (has from) → AreIdle others (has to)
-    quiet-stays others each_other idle = rw (visited.left refl) (list-kept quiet others (houses_below f m) (has from) each_other those before after idle)
+    pub quiet-stays : (others : List CountHouse) → AllByRecursion Is others → AreIdle others (planes_have from) → AreIdle others (planes_have to)
+    quiet-stays others each_other idle = rw (visited.left refl) (list-kept quiet others (houses_below f m) (planes_have from) each_other those before after idle)
 
-    pub quiet-done : (k : ℕ) → k < m → AreIdle (f k) (has to)
-    quiet-done k lt = idle-one f (has to) lt (rw (visited.left refl) (list-settled quiet (houses_below f m) (has from) those before after))
+    pub quiet-done : (k : ℕ) → k < m → AreIdle (f k) (planes_have to)
+    quiet-done k lt = idle-one f (planes_have to) lt (rw (visited.left refl) (list-settled quiet (houses_below f m) (planes_have from) those before after))
 
 -- one list
 pub quiet-one : {cells : ℕ} {Is : CountHouse → Type 0} → AreQuiet cells Is → (houses : List CountHouse) → AllByRecursion Is houses
-    → {from to : Layers} → cells_of from ≡ cells → ArePlanesAlive from → AreVisited houses from to true
-    → (others : List CountHouse) → AllByRecursion Is others → AreIdle others (has from) → AreIdle others (has to)
+    → {from to : Layers} → plane_cells from ≡ cells → ArePlanesAlive from → AreVisited houses from to true
+    → (others : List CountHouse) → AllByRecursion Is others → AreIdle others (planes_have from) → AreIdle others (planes_have to)
 quiet-one quiet houses each size alive visited others each_other idle =
     quiet-stays quiet (λ _. houses) {n = 1} (λ k lt. each) size alive (omega arith) (sweep-more (λ _. houses) (sweep-first (λ _. houses) alive) visited refl) others each_other idle
 
 -- the next of the lines that are left
 pub quiet-next : {cells : ℕ} {Is : CountHouse → Type 0} → AreQuiet cells Is → {f : ℕ → List CountHouse} {n : ℕ} → ((k : ℕ) → k < n → AllByRecursion Is (f k))
-    → {left : ℕ → Bool} {from to next : Layers} {room line : ℕ} {fills : Bool} → cells_of from ≡ cells → AreLinesPassed f n left from to → IsLeast left room line
+    → {left : ℕ → Bool} {from to next : Layers} {room line : ℕ} {fills : Bool} → plane_cells from ≡ cells → AreLinesPassed f n left from to → IsLeast left room line
     → AreVisited (f line) to next fills → fills ≡ true → (rest : ℕ → Bool) → ((k : ℕ) → rest k ≡ (left k && not (eqb k line))) → AreLinesPassed f n rest from next
 quiet-next quiet {f} each {line = line} size passed least visited fill rest without = passed-next f passed least visited fill rest
     (λ k on. let w = rest-on least without k on in (w.0, passed.inside k w.1))

@@ -1,5 +1,5 @@
 -- Houses that are idle: one by one, in parts of a list, and by lines.
-use Rattle.fields_core.proofs.Common.{AllByRecursion, AreDifferent, AreIdle, ArePlanesAlive, AreVisited, Bool, Candidates, CountHouse, IsClosed, IsInside, IsLeast, Layers, List, [], after_house, after_visits, and_parts, any_below, any_below-here, any_below-none, any_below-some, ap, append_assoc, arith, by_fillings-monotone, by_fillings-settled, cases_Bool, cases_eq, cases_lt, common_steps, count_below, count_below-lt, count_house_of, count_puzzle, counts_between, eq-eqb, eqb, false, false_from_ne_true, fun_ext, further-none, get_or-append_seam, has, has_place, houses_below, inl, inr, le-ltb, length, length-append, list_any, list_any-append, lt-ltb, ltb, ne_eqb, no_count_house, not, not-true, or_cases, refl, strikes_at-inside, strikes_of, suc, sym, true, true≢false, zero, ℕ, ◌&&◌, ◌++◌, ◌+◌, ◌-◌, ◌<◌, ◌||◌, ◌∙◌, ◌∷◌, ◌≡◌, ◌≤◌, ◌⊎◌}
+use Rattle.fields_core.proofs.Common.{AllByRecursion, AreDifferent, AreIdle, ArePlanesAlive, AreVisited, Bool, Candidates, CountHouse, IsClosed, IsInside, IsLeast, Layers, List, [], after_house, after_visits, and_parts, any_below, any_below-here, any_below-none, any_below-some, ap, append_assoc, arith, by_fillings-monotone, by_fillings-settled, cases_Bool, cases_eq, cases_lt, common_steps, count_below, count_below-lt, count_house_of, count_puzzle, counts_between, eq-eqb, eqb, false, false_from_ne_true, fun_ext, further-none, get_or-append_seam, planes_have, has_place, houses_below, inl, inr, le-ltb, length, length-append, list_any, list_any-append, lt-ltb, ltb, ne_eqb, no_count_house, not, not-true, or_cases, refl, strikes_at-inside, strikes_of, suc, sym, true, true≢false, zero, ℕ, ◌&&◌, ◌++◌, ◌+◌, ◌-◌, ◌<◌, ◌||◌, ◌∙◌, ◌∷◌, ◌≡◌, ◌≤◌, ◌⊎◌}
 use Rattle.fields_core.proofs.VisitLemmas.{IsBinaryAlive, after-inside, below-rest, others-stay, sweep-broken, sweep-first, sweep-more, visited-left, visited-more, visits-append, visits-inside}
 use Rattle.fields_core.proofs.HouseLemmas.{below-more}
 use Rattle.fields_core.proofs.CellLemmas.{first-off}
@@ -51,7 +51,7 @@ idle-far (house ∷ houses) K L inside far idle =
     far-of c v on off = grind (arith, common_steps, cases_Bool)
 
 -- a visit of idle houses takes nothing
-pub visited-idle : (houses : List CountHouse) {p : Layers} → ArePlanesAlive p → AreIdle houses (has p) → AreVisited houses p p true
+pub visited-idle : (houses : List CountHouse) {p : Layers} → ArePlanesAlive p → AreIdle houses (planes_have p) → AreVisited houses p p true
 visited-idle houses {p} alive idle = visited-left (sym idle) alive (further-none p)
 
 -- ---- a list among others
@@ -77,14 +77,14 @@ any-one house c on = grind (arith, common_steps, cases_Bool (has_place house.pla
 
 -- visits of idle lists go on to further ones
 visited-further : (f : ℕ → List CountHouse) {from to : Layers} (n d : ℕ) → AreVisited (houses_below f n) from to true
-    → ((k : ℕ) → n ≤ k → k < n + d → AreIdle (f k) (has to)) → AreVisited (houses_below f (n + d)) from to true
+    → ((k : ℕ) → n ≤ k → k < n + d → AreIdle (f k) (planes_have to)) → AreVisited (houses_below f (n + d)) from to true
 visited-further f n zero visited idle = let e : n + 0 ≡ n = omega arith in rw e visited
 visited-further f {from} {to} n (suc d) visited idle =
     let e : n + suc d ≡ n + d + 1 = omega arith in let less = visited-further f n d visited (λ k le lt. idle k le (omega arith)) in
     rw e (sweep-more f less (visited-idle (f (n + d)) less.alive (idle (n + d) (omega arith) (omega arith))) refl)
 
 pub visited-skip : (f : ℕ → List CountHouse) {from to : Layers} {n m : ℕ} → n ≤ m → AreVisited (houses_below f n) from to true
-    → ((k : ℕ) → n ≤ k → k < m → AreIdle (f k) (has to)) → AreVisited (houses_below f m) from to true
+    → ((k : ℕ) → n ≤ k → k < m → AreIdle (f k) (planes_have to)) → AreVisited (houses_below f m) from to true
 visited-skip f {from} {to} {n} {m} le visited idle =
     let e : n + (m - n) ≡ m = omega arith in rw e at (visited-further f n (m - n) visited (λ k at lt. idle k at (omega arith)))
 
@@ -235,10 +235,10 @@ pub record AreLinesPassed (f : ℕ → List CountHouse) (n : ℕ) (left : ℕ �
   pub behind : (k : ℕ) → left k ≡ true → line ≤ k
   pub inside : (k : ℕ) → left k ≡ true → k < n
   pub visited : AreVisited (houses_below f line) from to true
-  pub idle : (k : ℕ) → line ≤ k → k < n → left k ≡ false → AreIdle (f k) (has to)
+  pub idle : (k : ℕ) → line ≤ k → k < n → left k ≡ false → AreIdle (f k) (planes_have to)
 
 pub passed-first : (f : ℕ → List CountHouse) {n : ℕ} {left : ℕ → Bool} {from : Layers} → ArePlanesAlive from → ((k : ℕ) → left k ≡ true → k < n)
-    → ((k : ℕ) → k < n → left k ≡ false → AreIdle (f k) (has from)) → AreLinesPassed f n left from from
+    → ((k : ℕ) → k < n → left k ≡ false → AreIdle (f k) (planes_have from)) → AreLinesPassed f n left from from
 passed-first f alive inside idle = grind (arith, common_steps, sweep-first)
 
 module _ (f : ℕ → List CountHouse) {n : ℕ} {left : ℕ → Bool} {from to : Layers} where
@@ -271,7 +271,7 @@ module _ (f : ℕ → List CountHouse) {n : ℕ} {left : ℕ → Bool} {from to 
 
     -- or none, and lines behind it are left
     pub passed-next : {next : Layers} {fills : Bool} → AreVisited (f line) to next fills → fills ≡ true → (rest : ℕ → Bool) → ((k : ℕ) → rest k ≡ true → (line < k) × (k < n))
-        → ((k : ℕ) → line < k → k < n → rest k ≡ false → AreIdle (f k) (has next)) → AreLinesPassed f n rest from next
+        → ((k : ℕ) → line < k → k < n → rest k ≡ false → AreIdle (f k) (planes_have next)) → AreLinesPassed f n rest from next
     passed-next visited fill rest on idle = record {
       line = line + 1;
       line_in = omega (arith, passed.inside line least.has);

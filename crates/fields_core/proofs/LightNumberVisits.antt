@@ -1,5 +1,5 @@
 -- Visits of the numbers of Light Up on planes.
-use Rattle.fields_core.proofs.Common.{ArePieces, ArePlanesAlive, AreVisited, Black, Bool, Column, Extent, IsBroken, IsColumnOf, IsFurther, IsHouse, IsHouseOfPieces, IsLight, Layers, Light, List, Numbered, Piece, Row, [], after_house, after_visits, and-false, and_from, and_parts, any_below, any_below-none, any_below-some, arith, beside, cases_Bool, cases_eq, cases_lt, common_steps, crosses, div-mul-add, eq-eqb, eqb, eqb-true, exactly, false, filter, fun_ext, further-none, get_or, get_or-set_other, get_or-set_same, has, has_bit, has_place, inl, inr, le-ltb, length, length-map, lies_in, lies_in_first, light_cells, light_houses, lines_beside, lt-ltb, ltb, ltb-true, map, map-set, ne_eqb, not, number_house, number_of, or_cases, or_left, or_parts, or_right, piece_at, place-column, place-in, refl, set, slice_index, subst, suc, sym, true, white, zero, ℕ, ◌%◌, ◌&&◌, ◌*◌, ◌+◌, ◌-◌, ◌/◌, ◌<◌, ◌||◌, ◌∙◌, ◌∷◌, ◌≡◌, ◌≤◌}
+use Rattle.fields_core.proofs.Common.{ArePieces, ArePlanesAlive, AreVisited, Black, Bool, Column, Extent, IsBroken, IsColumnOf, IsFurther, IsHouse, IsHouseOfPieces, IsLight, Layers, Light, List, Numbered, Piece, Row, [], after_house, after_visits, and-false, and_from, and_parts, any_below, any_below-none, any_below-some, arith, beside, cases_Bool, cases_eq, cases_lt, common_steps, crosses, div-mul-add, eq-eqb, eqb, eqb-true, exactly, false, filter, fun_ext, further-none, get_or, get_or-set_other, get_or-set_same, planes_have, has_bit, has_place, inl, inr, le-ltb, length, length-map, lies_in, lies_in_first, light_cells, light_houses, lines_beside, lt-ltb, ltb, ltb-true, map, map-set, ne_eqb, not, number_house, number_of, or_cases, or_left, or_parts, or_right, piece_at, place-column, place-in, refl, set, slice_index, subst, suc, sym, true, white, zero, ℕ, ◌%◌, ◌&&◌, ◌*◌, ◌+◌, ◌-◌, ◌/◌, ◌<◌, ◌||◌, ◌∙◌, ◌∷◌, ◌≡◌, ◌≤◌}
 use Rattle.fields_core.proofs.VisitLemmas.{among-below, among-front, among-house, among-one, others-stay, visited-dies, visited-left, visited-none}
 use Rattle.fields_core.proofs.CellLemmas.{cell-is, same-truth}
 use Rattle.fields_core.proofs.LightRuleLemmas.{light-counting}
@@ -155,7 +155,7 @@ module _ (p : Light) (lawful : IsLight p) (y x row column : ℕ) (y_in : y < p.s
     pub number-house-of : IsHouseOfPieces from.size pieces n n (exactly n places)
     number-house-of = subst (λ (e : Extent). IsHouseOfPieces e pieces n n (exactly n places)) (sym size) (record { is = house_is; least_is = refl; most_is = refl; cells = places-are })
 
-    pub number-filled : {to : Layers} → has to ≡ after_house (exactly n places) (has from) → ArePlanesAlive to → IsFurther from to
+    pub number-filled : {to : Layers} → planes_have to ≡ after_house (exactly n places) (planes_have from) → ArePlanesAlive to → IsFurther from to
         → AreVisited (number_house p cell) from to true
     unfolding after_visits
     number-filled {to} left alive further = rw numbered (visited-left left alive further)
@@ -163,7 +163,7 @@ module _ (p : Light) (lawful : IsLight p) (y x row column : ℕ) (y_in : y < p.s
     -- a house that has no filling, if it has a cell
     pub number-short : {room : ℕ} (both : ℕ) {to : Layers} {any : Bool} → p.size.w ≤ room → p.size.h ≤ room
         → ((k : ℕ) → has_bit both k ≡ (has_bit row k || has_bit column k)) → any ≡ any_below (has_bit both) room
-        → IsBroken (exactly n places) (has from) → to ≡ from → ArePlanesAlive from → AreVisited (number_house p cell) from to (not any)
+        → IsBroken (exactly n places) (planes_have from) → to ≡ from → ArePlanesAlive from → AreVisited (number_house p cell) from to (not any)
     unfolding after_visits
     number-short {room} both {to} {any} wide tall both_is any_is broken same alive = rw (same, numbered) (elim (cases_Bool any) [
       | inl on ↦
@@ -171,7 +171,7 @@ module _ (p : Light) (lawful : IsLight p) (y x row column : ℕ) (y_in : y < p.s
           let there = places-are w.0 ∙ lies-both p.size.w y x row column w.0 ∙ w.1 in
           rw on (visited-dies w.0 (rw size (house_is.within w.0 there)) (λ v low. broken w.0 v there low) alive)
       | inr off ↦ rw off (visited-left
-          (fun_ext λ c. fun_ext λ v. sym (others-stay (exactly n places) (has from) c v (places-are c ∙ lies-both p.size.w y x row column c ∙ bare c (sym any_is ∙ off))))
+          (fun_ext λ c. fun_ext λ v. sym (others-stay (exactly n places) (planes_have from) c v (places-are c ∙ lies-both p.size.w y x row column c ∙ bare c (sym any_is ∙ off))))
           alive (further-none from))
     ])
       where

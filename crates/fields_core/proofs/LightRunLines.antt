@@ -1,5 +1,5 @@
 -- The runs of one line, visited at once.
-use Rattle.fields_core.proofs.Common.{AllByRecursion, AreAround, ArePlanesAlive, AreRunsOf, AreVisited, Bool, CountHouse, Extent, IsClash, IsFurther, IsHouse, IsLeast, IsRunOf, Layers, Line, List, [], and-false, and-true, and_from, and_parts, any_below, any_below-here, any_below-none, any_below-some, ap, arith, at_line, cases_Bool, cases_eq, cases_lt, common_steps, covers, crosses, distinct-from, eq-eqb, eqb, false, false_from_ne_true, false≢true, fun_ext, has, has_bit, has_place, inl, inr, list_any, lt-ltb, ltb, ltb-true, ne_eqb, not, not-true, or_cases, or_left, or_right, refl, sym, true, true≢false, without_taking, ℕ, ◌%◌, ◌&&◌, ◌*◌, ◌/◌, ◌<◌, ◌||◌, ◌∙◌, ◌∷◌, ◌≡◌, ◌≢◌, ◌≤◌, ◌⊎◌}
+use Rattle.fields_core.proofs.Common.{AllByRecursion, AreAround, ArePlanesAlive, AreRunsOf, AreVisited, Bool, CountHouse, Extent, IsClash, IsFurther, IsHouse, IsLeast, IsRunOf, Layers, Line, List, [], and-false, and-true, and_from, and_parts, any_below, any_below-here, any_below-none, any_below-some, ap, arith, at_line, cases_Bool, cases_eq, cases_lt, common_steps, covers, crosses, distinct-from, eq-eqb, eqb, false, false_from_ne_true, false≢true, fun_ext, planes_have, has_bit, has_place, inl, inr, list_any, lt-ltb, ltb, ltb-true, ne_eqb, not, not-true, or_cases, or_left, or_right, refl, sym, true, true≢false, without_taking, ℕ, ◌%◌, ◌&&◌, ◌*◌, ◌/◌, ◌<◌, ◌||◌, ◌∙◌, ◌∷◌, ◌≡◌, ◌≢◌, ◌≤◌, ◌⊎◌}
 use Rattle.fields_core.proofs.VisitLemmas.{IsBinaryAlive, IsOneAtMost, visited-dies, visited-left, visits-met, visits-two, zeros_of}
 unfoldable use Rattle.fields_core.proofs.VisitLemmas.{is_met, without_met}
 use Rattle.fields_core.proofs.PlaceLists.{any-here, any-some, count-one}
@@ -145,7 +145,7 @@ module _ (size : Extent) (line : Line) (n room : ℕ) (cell : ℕ → ℕ) (join
   cells = size.w * size.h
 
   abbrev zeros : ℕ → Bool
-  zeros = zeros_of (has from)
+  zeros = zeros_of (planes_have from)
 
   must-at : (k : ℕ) → has_bit must k ≡ true → (k < n) × (zeros (cell k) ≡ false)
   must-at k on = grind (arith, common_steps, and_parts, ltb-true, not-true)
@@ -159,7 +159,7 @@ module _ (size : Extent) (line : Line) (n room : ℕ) (cell : ℕ → ℕ) (join
       let one = must-at clash.one clash.one_marked in let other = must-at clash.other clash.other_marked in
       let both = and_parts _ _ (sym (run_is clash.one clash.other one.0) ∙ clash.same) in let after = clash.after in
       visited-dies (cell clash.one) (rw same_size (inside clash.one clash.other one.0 other.0 both.1))
-      (λ v low. visits-two cells houses (has from) (cell clash.one) (cell clash.other) v
+      (λ v low. visits-two cells houses (planes_have from) (cell clash.one) (cell clash.other) v
       (each-more (IsRunOf cells n cell joined) (λ house. IsHouse cells house × (house.most ≡ 1)) houses (λ house is. (is.is, is.most_is)) are.each)
       (λ e. let same = are.own clash.one clash.other one.0 other.0 e in absurd (omega arith))
       (are.some clash.one clash.other one.0 other.0 both.1) one.1 other.1 low) alive
@@ -170,13 +170,13 @@ module _ (size : Extent) (line : Line) (n room : ℕ) (cell : ℕ → ℕ) (join
   -- ---- no two: what is around is taken
   pub runs-met : {around : ℕ} (taken : ℕ) {to : Layers} → AreAround run room must around
       → ((k : ℕ) → has_bit taken k ≡ (has_bit around k && at_line from line 0 k))
-      → has to ≡ without_taking from.size.w (has from) (record { line = line; value = 1; bits = taken }) → IsFurther from to
+      → planes_have to ≡ without_taking from.size.w (planes_have from) (record { line = line; value = 1; bits = taken }) → IsFurther from to
       → AreVisited houses from to true
   unfolding without_taking covers without_met is_met
   runs-met {around} taken {to} is taken_is left further =
-      visited-left (met ∙ sym (visits-met houses (has from) full each)) (λ c lt. living c (alive c (rw (further.same_size) at lt))) further
+      visited-left (met ∙ sym (visits-met houses (planes_have from) full each)) (λ c lt. living c (alive c (rw (further.same_size) at lt))) further
     where
-      full : IsBinaryAlive cells (has from)
+      full : IsBinaryAlive cells (planes_have from)
       full = record { low = value-in from; some = λ c lt. alive c (rw same_size lt) }
 
       -- two that must be ones are in no house
@@ -240,13 +240,13 @@ module _ (size : Extent) (line : Line) (n room : ℕ) (cell : ℕ → ℕ) (join
       width : from.size.w ≡ size.w
       width = ap (λ (s : Extent). s.w) same_size
 
-      met : has to ≡ without_met houses (has from)
-      met = left ∙ fun_ext λ c. fun_ext λ v. ap (λ (b : Bool). has from c v && not (eqb v 1 && b)) (ap (λ k. crosses line taken (c / k) (c % k)) width ∙ hits c)
+      met : planes_have to ≡ without_met houses (planes_have from)
+      met = left ∙ fun_ext λ c. fun_ext λ v. ap (λ (b : Bool). planes_have from c v && not (eqb v 1 && b)) (ap (λ k. crosses line taken (c / k) (c % k)) width ∙ hits c)
 
-      living : (c : ℕ) → (has from c 0 ≡ true) ⊎ (has from c 1 ≡ true) → (has to c 0 ≡ true) ⊎ (has to c 1 ≡ true)
+      living : (c : ℕ) → (planes_have from c 0 ≡ true) ⊎ (planes_have from c 1 ≡ true) → (planes_have to c 0 ≡ true) ⊎ (planes_have to c 1 ≡ true)
       living c some = by (list_any (λ house. is_met zeros house c) houses) (ap (λ (L : ℕ → ℕ → Bool). L c 0) met) (ap (λ (L : ℕ → ℕ → Bool). L c 1) met) some
         where
-          by : (any : Bool) → has to c 0 ≡ (has from c 0 && not (false && (has from c 0 && any)))
-              → has to c 1 ≡ (has from c 1 && not (true && (has from c 0 && any)))
-              → (has from c 0 ≡ true) ⊎ (has from c 1 ≡ true) → (has to c 0 ≡ true) ⊎ (has to c 1 ≡ true)
-          by any zero one some = grind (arith, common_steps, cases_Bool (has from c 0), cases_Bool (has from c 1), cases_Bool any)
+          by : (any : Bool) → planes_have to c 0 ≡ (planes_have from c 0 && not (false && (planes_have from c 0 && any)))
+              → planes_have to c 1 ≡ (planes_have from c 1 && not (true && (planes_have from c 0 && any)))
+              → (planes_have from c 0 ≡ true) ⊎ (planes_have from c 1 ≡ true) → (planes_have to c 0 ≡ true) ⊎ (planes_have to c 1 ≡ true)
+          by any zero one some = grind (arith, common_steps, cases_Bool (planes_have from c 0), cases_Bool (planes_have from c 1), cases_Bool any)

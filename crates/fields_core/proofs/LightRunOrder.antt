@@ -1,5 +1,5 @@
 -- The houses of the runs of Light Up, line by line.
-use Rattle.fields_core.proofs.Common.{AllByRecursion, AreIdle, ArePlanesAlive, AreRunsOf, AreVisited, Bool, Candidates, Column, CountHouse, IsColumnRun, IsInside, IsLight, IsRowRun, IsRunOf, Layers, Light, Line, List, Row, ℕ, and_from, and_parts, any_below, any_below-here, any_below-some, ap, arith, begins_column_run, begins_row_run, cases_Bool, column_house, column_run, column_runs_of_column, crosses, div-lt_iff_lt-mul, div-mul-add, eq-eqb, eqb-true, false, has, has_bit, has_place, houses_below, inl, inr, joined_in_column, joined_in_row, light_cells, list_any, lt-ltb, ltb, mod-lt, or_left, place-column, place-in, refl, row_house, row_run, row_runs_of_row, slice_index, subst, suc, sym, true, white, zero, ◌%◌, ◌&&◌, ◌*◌, ◌+◌, ◌/◌, ◌<◌, ◌∙◌, ◌≡◌}
+use Rattle.fields_core.proofs.Common.{AllByRecursion, AreIdle, ArePlanesAlive, AreRunsOf, AreVisited, Bool, Candidates, Column, CountHouse, IsColumnRun, IsInside, IsLight, IsRowRun, IsRunOf, Layers, Light, Line, List, Row, ℕ, and_from, and_parts, any_below, any_below-here, any_below-some, ap, arith, begins_column_run, begins_row_run, cases_Bool, column_house, column_run, column_runs_of_column, crosses, div-lt_iff_lt-mul, div-mul-add, eq-eqb, eqb-true, false, planes_have, has_bit, has_place, houses_below, inl, inr, joined_in_column, joined_in_row, light_cells, list_any, lt-ltb, ltb, mod-lt, or_left, place-column, place-in, refl, row_house, row_run, row_runs_of_row, slice_index, subst, suc, sym, true, white, zero, ◌%◌, ◌&&◌, ◌*◌, ◌+◌, ◌/◌, ◌<◌, ◌∙◌, ◌≡◌}
 use Rattle.fields_core.proofs.LightRuleLemmas.{IsLightBoard, column-kind, column-run-joined, in-column-run, in-row-run, light-board, row-kind, row-run-joined}
 use Rattle.fields_core.proofs.LightHouseLaws.{clear-at, column-both, column-parts, column-run-on, column-self, column-white-end, mul-inj, row-both, row-parts, row-run-on, row-self, white-in}
 use Rattle.fields_core.proofs.HouseLemmas.{all-houses, all-if, any-houses}
@@ -72,7 +72,7 @@ module _ (p : Light) (y : ℕ) (lawful : IsLight p) where
       (rw (at, b.1) (or_left _ _ (and_from _ _ in_c in_d)))
 
   pub row-runs-of : AreRunsOf p.size (Row y) w (λ k. y * w + k) (λ j k. joined_in_row p (y * w + j) (y * w + k)) (row_runs_of_row p y)
-  unfolding crosses has
+  unfolding crosses planes_have
   row-runs-of = record {
     own = λ j k lj lk e. omega arith;
     at_cell = λ bits c on. let v = and_parts _ _ on in (c % w, in-line c (eqb-true _ _ v.0), v.1);
@@ -130,7 +130,7 @@ module _ (p : Light) (x : ℕ) (lawful : IsLight p) (low : x < p.size.w) where
       (rw (at, b.1) (or_left _ _ (and_from _ _ in_c in_d)))
 
   pub column-runs-of : AreRunsOf p.size (Column x) p.size.h (λ k. k * v + x) (λ j k. joined_in_column p (j * v + x) (k * v + x)) (column_runs_of_column p x)
-  unfolding crosses has
+  unfolding crosses planes_have
   column-runs-of = record {
     own = λ j k lj lk e. mul-inj field.some (omega arith);
     at_cell = λ bits c on. let u = and_parts _ _ on in (c / v, in-column c (eqb-true _ _ u.0), u.1);

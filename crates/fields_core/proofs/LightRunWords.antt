@@ -1,5 +1,5 @@
 -- Words of runs along a line, as they are written one after another.
-use Rattle.fields_core.proofs.Common.{AreWordsFilled, AreWordsWritten, Bool, Candidates, Extent, IsColumnOf, IsColumnRun, IsLeast, IsRowOf, IsRowRun, IsRunAt, Layers, Light, List, ℕ, all_of, and-false, and-true, and_from, and_parts, any_below, any_below-none, ap, arith, bit_of, cases_Bool, cases_eq, cases_lt, clear, common_steps, div-mul-add, eq-eqb, eqb, false, false_from_ne_true, get_or-set_other, get_or-set_same, has, has_bit, inl, inr, joined_in_column, joined_in_row, le-ltb, length, length-map, length-set, light_cells, light_rules, lt-ltb, ltb, ltb-true, map, map-set, mul-le-mul_right, ne_eqb, not, not-false, not-true, place-column, place-in, refl, set, slice_index, start_of, subst, sym, true, true≢false, white, ◌%◌, ◌&&◌, ◌*◌, ◌+◌, ◌-◌, ◌/◌, ◌<◌, ◌∙◌, ◌≡◌, ◌≢◌, ◌≤◌}
+use Rattle.fields_core.proofs.Common.{AreWordsFilled, AreWordsWritten, Bool, Candidates, Extent, IsColumnOf, IsColumnRun, IsLeast, IsRowOf, IsRowRun, IsRunAt, Layers, Light, List, ℕ, all_of, and-false, and-true, and_from, and_parts, any_below, any_below-none, ap, arith, bit_of, cases_Bool, cases_eq, cases_lt, clear, common_steps, div-mul-add, eq-eqb, eqb, false, false_from_ne_true, get_or-set_other, get_or-set_same, planes_have, has_bit, inl, inr, joined_in_column, joined_in_row, le-ltb, length, length-map, length-set, light_cells, light_rules, lt-ltb, ltb, ltb-true, map, map-set, mul-le-mul_right, ne_eqb, not, not-false, not-true, place-column, place-in, refl, set, slice_index, start_of, subst, sym, true, true≢false, white, ◌%◌, ◌&&◌, ◌*◌, ◌+◌, ◌-◌, ◌/◌, ◌<◌, ◌∙◌, ◌≡◌, ◌≢◌, ◌≤◌}
 use Rattle.fields_core.proofs.CellLemmas.{has-at, same-truth, second-off}
 use Rattle.fields_core.proofs.LightHouseLaws.{clear-at, clear-from}
 use Rattle.fields_core.proofs.RunLemmas.{column-cell-joined, row-cell-joined}
@@ -180,7 +180,7 @@ columns-written p {x} whites from to low are before is c lt less = elim (cases_e
     row-in i e = grind (arith, common_steps, cases_lt, mul-le-mul_right)
 
 -- the cells of a column that can be 1 on the board that a search starts from
-pub column-whites : (p : Light) (planes : Layers) (x word : ℕ) → planes.size ≡ p.size → has planes ≡ (light_rules p).start → x < p.size.w
+pub column-whites : (p : Light) (planes : Layers) (x word : ℕ) → planes.size ≡ p.size → planes_have planes ≡ (light_rules p).start → x < p.size.w
     → ((y : ℕ) → has_bit word y ≡ bit_of planes.rows y 1 x) → ((y : ℕ) → has_bit word y ≡ true → y < planes.size.h) → IsColumnOf p.size (white p) x word
 unfolding start_of all_of
 column-whites p planes x word size start lt cells within y = elim (cases_lt y p.size.h) [

@@ -1,5 +1,5 @@
 -- Light Up: words of the cells that a cell sees, and runs that are safe.
-use Rattle.fields_core.proofs.Common.{AreSafe, Bool, Candidates, IsColumnRun, IsLeast, IsRowRun, Layers, Light, List, and-false, and_parts, any_below, any_below-none, any_below-some, ap, arith, bit_of, cases_Bool, common_steps, cond, count_below, count_below-few, count_below-lt, count_below-pos, div-mul-add, eq-eqb, eqb, eqb-true, false, get_or, has, has_bit, inl, inr, joined_in_column, joined_in_row, le-ltb, least_below, least_below-passes, length, length-map, light_cells, line_board, lt-ltb, ltb, ltb-true, map, mod-mul-add, not, not-false, place-in, refl, slice_index, suc, sym, true, true≢false, white, zero, ℕ, ◌%◌, ◌&&◌, ◌*◌, ◌+◌, ◌<◌, ◌∙◌, ◌≡◌, ◌≤◌}
+use Rattle.fields_core.proofs.Common.{AreSafe, Bool, Candidates, IsColumnRun, IsLeast, IsRowRun, Layers, Light, List, and-false, and_parts, any_below, any_below-none, any_below-some, ap, arith, bit_of, cases_Bool, common_steps, cond, count_below, count_below-few, count_below-lt, count_below-pos, div-mul-add, eq-eqb, eqb, eqb-true, false, get_or, planes_have, has_bit, inl, inr, joined_in_column, joined_in_row, le-ltb, least_below, least_below-passes, length, length-map, light_cells, line_board, lt-ltb, ltb, ltb-true, map, mod-mul-add, not, not-false, place-in, refl, slice_index, suc, sym, true, true≢false, white, zero, ℕ, ◌%◌, ◌&&◌, ◌*◌, ◌+◌, ◌<◌, ◌∙◌, ◌≡◌, ◌≤◌}
 use Rattle.fields_core.proofs.PlaceLists.{num}
 use Rattle.fields_core.proofs.LightHouseLaws.{column-both, column-next, mul-inj, row-both}
 use Rattle.fields_core.proofs.CellLemmas.{has-at, row-read, second-off}
@@ -86,19 +86,19 @@ module _ (p : Light) (y x : ℕ) (x_in : x < p.size.w) where
 
   module _ (planes : Layers) (size : planes.size ≡ p.size) (run zeros ones : ℕ) (safe : AreSafe (has_bit run) (line_board zeros ones)) where
     pub row-line : IsRowRun p cell run → ((k : ℕ) → has_bit zeros k ≡ bit_of planes.rows y 0 k) → ((k : ℕ) → has_bit ones k ≡ bit_of planes.rows y 1 k)
-        → AreSafe (joined_in_row p cell) (has planes)
+        → AreSafe (joined_in_row p cell) (planes_have planes)
     row-line is zeros_are ones_are = safe-line run zeros ones (λ k. y * p.size.w + k) (λ j k e. omega (arith, e))
         (λ k on.
         let there = row-there run is k on in
-        let at : (v : ℕ) → v < 2 → has planes (y * p.size.w + k) v ≡ bit_of planes.rows y v k = λ v low. has-at planes y k v (rw size refl) there.0 low in
+        let at : (v : ℕ) → v < 2 → planes_have planes (y * p.size.w + k) v ≡ bit_of planes.rows y v k = λ v low. has-at planes y k v (rw size refl) there.0 low in
         (there.1, at 0 (omega arith) ∙ sym (zeros_are k), at 1 (omega arith) ∙ sym (ones_are k))) safe
 
     pub column-line : IsColumnRun p cell run → ((k : ℕ) → has_bit zeros k ≡ bit_of planes.rows k 0 x) → ((k : ℕ) → has_bit ones k ≡ bit_of planes.rows k 1 x)
-        → AreSafe (joined_in_column p cell) (has planes)
+        → AreSafe (joined_in_column p cell) (planes_have planes)
     column-line is zeros_are ones_are = safe-line run zeros ones (λ k. k * p.size.w + x) (λ j k e. mul-inj {w = p.size.w} (omega (arith, x_in)) (omega (arith, e)))
         (λ k on.
         let joined = and_parts (ltb k p.size.h) (joined_in_column p cell (k * p.size.w + cell % p.size.w)) (sym (is k) ∙ on) in
-        let at : (v : ℕ) → v < 2 → has planes (k * p.size.w + x) v ≡ bit_of planes.rows k v x = λ v low. has-at planes k x v (rw size refl) x_in low in
+        let at : (v : ℕ) → v < 2 → planes_have planes (k * p.size.w + x) v ≡ bit_of planes.rows k v x = λ v low. has-at planes k x v (rw size refl) x_in low in
         (rw (mod-mul-add y p.size.w x x_in) at joined.1, at 0 (omega arith) ∙ sym (zeros_are k), at 1 (omega arith) ∙ sym (ones_are k))) safe
 
 -- the same of another cell that is joined to them

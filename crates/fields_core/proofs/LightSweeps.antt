@@ -1,5 +1,5 @@
 -- Light Up: what waits, and sweeps of its houses on planes.
-use Rattle.fields_core.proofs.Common.{AllByRecursion, AreIdle, AreIdleBut, AreLightsReady, AreLinesOf, AreLightsRested, AreLightsWoken, ArePlanesAlive, ArePlanesOf, AreSafe, AreVisited, Black, Bool, Candidates, CountHouse, HasBoard, IsAway, IsClosed, IsClosedAround, IsFurther, IsInside, IsLight, IsLostIn, IsReach, IsSweep, Layers, Light, LightCell, List, Numbered, RunKind, Touched, White, ℕ, after_visits, any_below, any_below-none, ap, append_assoc, arith, back_at, cases_Bool, cases_eq, column_house, common_steps, div-mul-add, eqb, eqb-true, exactly, false, false_from_ne_true, filter, get_or, has, has_bit, has_place, houses_below, inl, inr, joined_in_column, joined_in_row, light_cells, light_counts, light_houses, light_rules, lit_house, lits_of_row, mod-lt, ne_eqb, not, number_house, numbers_of_row, one_at_least, or_left, or_parts, or_right, place-back, place-column, place-filter, place-front, place-in, place-kept, refl, row_house, row_run, row_runs_of_row, run_houses, run_lines, seen_from, solves_lights, steps, suc, sym, true, true≢false, waiting_runs, white, white_houses, zero, ◌%◌, ◌&&◌, ◌*◌, ◌++◌, ◌+◌, ◌/◌, ◌<◌, ◌||◌, ◌∙◌, ◌≡◌, ◌≤◌, ◌⊎◌}
+use Rattle.fields_core.proofs.Common.{AllByRecursion, AreIdle, AreIdleBut, AreLightsReady, AreLinesOf, AreLightsRested, AreLightsWoken, ArePlanesAlive, ArePlanesOf, AreSafe, AreVisited, Black, Bool, Candidates, CountHouse, HasBoard, IsAway, IsClosed, IsClosedAround, IsFurther, IsInside, IsLight, IsLostIn, IsReach, IsSweep, Layers, Light, LightCell, List, Numbered, RunKind, Touched, White, ℕ, after_visits, any_below, any_below-none, ap, append_assoc, arith, back_at, cases_Bool, cases_eq, column_house, common_steps, div-mul-add, eqb, eqb-true, exactly, false, false_from_ne_true, filter, get_or, planes_have, has_bit, has_place, houses_below, inl, inr, joined_in_column, joined_in_row, light_cells, light_counts, light_houses, light_rules, lit_house, lits_of_row, mod-lt, ne_eqb, not, number_house, numbers_of_row, one_at_least, or_left, or_parts, or_right, place-back, place-column, place-filter, place-front, place-in, place-kept, refl, row_house, row_run, row_runs_of_row, run_houses, run_lines, seen_from, solves_lights, steps, suc, sym, true, true≢false, waiting_runs, white, white_houses, zero, ◌%◌, ◌&&◌, ◌*◌, ◌++◌, ◌+◌, ◌/◌, ◌<◌, ◌||◌, ◌∙◌, ◌≡◌, ◌≤◌, ◌⊎◌}
 use Rattle.fields_core.specs.declared.planes.light_up.waits.LightWaits.{LightWaits}
 use Rattle.fields_core.specs.declared.planes.light_up.waits.RunKind.TheVariants.{Columns, Rows}
 unfoldable use Rattle.fields_core.proofs.IdleLemmas.{any_has}
@@ -58,7 +58,7 @@ unfolding after_visits
 black-idle p c K off = rw off refl
 
 -- ---- on planes
-pub planes-full : (p : Light) (from : Layers) → from.size ≡ p.size → ArePlanesAlive from → IsBinaryAlive (light_cells p) (has from)
+pub planes-full : (p : Light) (from : Layers) → from.size ≡ p.size → ArePlanesAlive from → IsBinaryAlive (light_cells p) (planes_have from)
 planes-full p from size alive = record { low = value-in from; some = λ c lt. alive c (rw size lt) }
 
 -- ---- where houses lie
@@ -139,11 +139,11 @@ module _ {W : Type 0} (bits : W → ℕ) {room : ℕ} (p : Light) {before now : 
   lines-board = record { numbers = numbers-rested; runs = runs-rested; columns = columns-rested; whites = whites-rested }
 
 pub lines-woken : {W : Type 0} (bits : W → ℕ) {room : ℕ} (p : Light) (zeros ones : Touched W) {from to : Layers} {len : ℕ} (before now : LightWaits W)
-    → IsLostIn bits to.size.w 0 (back_at to len) (has to) zeros → IsLostIn bits to.size.w 1 (back_at to len) (has to) ones
+    → IsLostIn bits to.size.w 0 (back_at to len) (planes_have to) zeros → IsLostIn bits to.size.w 1 (back_at to len) (planes_have to) ones
     → ArePlanesOf room p to → ArePlanesOf room p from → from.len ≡ len → IsFurther from to
-    → AreLightsWoken bits room before zeros ones now → AreLightsRested bits p before (has from) → AreLightsRested bits p now (has to)
+    → AreLightsWoken bits room before zeros ones now → AreLightsRested bits p before (planes_have from) → AreLightsRested bits p now (planes_have to)
 lines-woken bits p zeros ones {from} {to} {len} before now lost_zeros lost_ones of was is further =
-    lines-board bits p (has from) (has to) of.lawful of.narrow of.low (planes-full p from was.size was.alive) (planes-full p to of.size of.alive) further.inside
+    lines-board bits p (planes_have from) (planes_have to) of.lawful of.narrow of.low (planes-full p from was.size was.alive) (planes-full p to of.size of.alive) further.inside
     (λ c on gone. rw (of.size) at (lost_zeros c (rw (back-whole is further) on) gone)) (λ c on gone. rw (of.size) at (lost_ones c (rw (back-whole is further) on) gone))
 
 -- ---- where all cells may have lost values
@@ -201,12 +201,12 @@ module _ (p : Light) (K : Candidates) (closed : IsClosed (light_rules p) K) wher
 
 -- a closing begins at a cell, which has lost a value
 pub lines-at : {W : Type 0} {bits : W → ℕ} {room : ℕ} {p : Light} {planes : Layers} {place : ℕ} {none now : LightWaits W} {zeros ones : Touched W}
-    → ArePlanesOf room p planes → IsClosedAround (light_rules p) (has planes) place
-    → (has planes place 0 ≡ false → AreLinesOf bits zeros (place / p.size.w) (place % p.size.w))
-    → (has planes place 1 ≡ false → AreLinesOf bits ones (place / p.size.w) (place % p.size.w))
-    → AreLightsWoken bits room none zeros ones now → AreLightsRested bits p now (has planes)
+    → ArePlanesOf room p planes → IsClosedAround (light_rules p) (planes_have planes) place
+    → (planes_have planes place 0 ≡ false → AreLinesOf bits zeros (place / p.size.w) (place % p.size.w))
+    → (planes_have planes place 1 ≡ false → AreLinesOf bits ones (place / p.size.w) (place % p.size.w))
+    → AreLightsWoken bits room none zeros ones now → AreLightsRested bits p now (planes_have planes)
 lines-at {W = W} {bits} {p} {planes} {place} {none} {zeros} {ones} of around no_zero no_one woken =
-    lines-board bits p around.before (has planes) of.lawful of.narrow of.low (full-before (light_counts p) around) (planes-full p planes of.size of.alive)
+    lines-board bits p around.before (planes_have planes) of.lawful of.narrow of.low (full-before (light_counts p) around) (planes-full p planes of.size of.alive)
     (around-inside (light_counts p) around) (around-lost (light_counts p) around bits p.size.w 0 zeros no_zero) (around-lost (light_counts p) around bits p.size.w 1 ones no_one) woken
     (closed-rested p around.before around.closed bits none)
 
@@ -239,7 +239,7 @@ runs-single p Rows k lawful lt = line-single p (row-runs-of p k lawful)
 runs-single p Columns k lawful lt = line-single p (column-runs-of p k lawful lt)
 
 pub runs-done : {room : ℕ} (p : Light) (kind : RunKind) {from to : Layers} → ArePlanesOf room p from
-    → AreVisited (houses_below (run_houses p kind) (run_lines p kind)) from to true → (k : ℕ) → k < run_lines p kind → AreIdle (run_houses p kind k) (has to)
+    → AreVisited (houses_below (run_houses p kind) (run_lines p kind)) from to true → (k : ℕ) → k < run_lines p kind → AreIdle (run_houses p kind k) (planes_have to)
 runs-done p kind of visited = quiet-done (singles-quiet (light_cells p)) (run_houses p kind) (λ k lt. runs-single p kind k of.lawful lt) (rw of.size refl) of.alive (omega arith) visited
 
 pub lit-all : {p : Light} {y x : ℕ} → IsLight p → y < p.size.h → x < p.size.w → AllByRecursion (IsAll (light_cells p)) (lit_house p (y * p.size.w + x))
@@ -251,32 +251,32 @@ row-lits {p} {y} lawful y_in = all-houses (IsAll (light_cells p)) (λ x. lit_hou
 -- in a row, and row by row
 pub lit-stays : {room : ℕ} {p : Light} {y x : ℕ} {from to : Layers} {m : ℕ} → ArePlanesOf room p from → m ≤ p.size.w → y < p.size.h → x < p.size.w
     → AreVisited (houses_below (λ x. lit_house p (y * p.size.w + x)) m) from to true
-    → AreIdle (lit_house p (y * p.size.w + x)) (has from) → AreIdle (lit_house p (y * p.size.w + x)) (has to)
+    → AreIdle (lit_house p (y * p.size.w + x)) (planes_have from) → AreIdle (lit_house p (y * p.size.w + x)) (planes_have to)
 lit-stays {p} {y} {x} of le y_in x_in visited idle =
     quiet-stays (alls-quiet (light_cells p)) (λ x. lit_house p (y * p.size.w + x)) (λ x lt. lit-all of.lawful y_in lt) (rw of.size refl) of.alive le visited
     (lit_house p (y * p.size.w + x)) (lit-all of.lawful y_in x_in) idle
 
 pub lits-stay : {room : ℕ} {p : Light} {y x : ℕ} {from to : Layers} {m : ℕ} → ArePlanesOf room p from → m ≤ p.size.h → y < p.size.h → x < p.size.w
     → AreVisited (houses_below (lits_of_row p) m) from to true
-    → AreIdle (lit_house p (y * p.size.w + x)) (has from) → AreIdle (lit_house p (y * p.size.w + x)) (has to)
+    → AreIdle (lit_house p (y * p.size.w + x)) (planes_have from) → AreIdle (lit_house p (y * p.size.w + x)) (planes_have to)
 lits-stay {p} {y} {x} of le y_in x_in visited idle =
     quiet-stays (alls-quiet (light_cells p)) (lits_of_row p) (λ y lt. row-lits of.lawful lt) (rw of.size refl) of.alive le visited
     (lit_house p (y * p.size.w + x)) (lit-all of.lawful y_in x_in) idle
 
 -- and another, after a visit of one
 pub lit-kept : {room : ℕ} {p : Light} {y j k : ℕ} {from to : Layers} → ArePlanesOf room p from → y < p.size.h → j < p.size.w → k < p.size.w
-    → AreVisited (lit_house p (y * p.size.w + j)) from to true → AreIdle (lit_house p (y * p.size.w + k)) (has from) → AreIdle (lit_house p (y * p.size.w + k)) (has to)
+    → AreVisited (lit_house p (y * p.size.w + j)) from to true → AreIdle (lit_house p (y * p.size.w + k)) (planes_have from) → AreIdle (lit_house p (y * p.size.w + k)) (planes_have to)
 lit-kept {p} {y} {j} {k} of y_in j_in k_in visited idle =
     quiet-one (alls-quiet (light_cells p)) (lit_house p (y * p.size.w + j)) (lit-all of.lawful y_in j_in) (rw of.size refl) of.alive visited
     (lit_house p (y * p.size.w + k)) (lit-all of.lawful y_in k_in) idle
 
 -- two cells that can have a bulb still can, and one that must still must: visits of white cells take no 1
 pub lits-safe : {room : ℕ} {p : Light} (houses : List CountHouse) {from to : Layers} {cells : ℕ → Bool} → AllByRecursion (IsAll (light_cells p)) houses
-    → ArePlanesOf room p from → AreVisited houses from to true → AreSafe cells (has from) → AreSafe cells (has to)
+    → ArePlanesOf room p from → AreVisited houses from to true → AreSafe cells (planes_have from) → AreSafe cells (planes_have to)
 lits-safe {p} houses {from} {to} each of visited safe =
     let after = rw (visited.left refl) at (planes-full p to (visited.further.same_size ∙ of.size) visited.alive) in
-    let ones : (c : ℕ) → has to c 1 ≡ has from c 1 =
-    λ c. rw (visited.left refl) (alls-ones (light_cells p) houses (has from) each (planes-full p from of.size of.alive) after c) in
+    let ones : (c : ℕ) → planes_have to c 1 ≡ planes_have from c 1 =
+    λ c. rw (visited.left refl) (alls-ones (light_cells p) houses (planes_have from) each (planes-full p from of.size of.alive) after c) in
     record {
       one = safe.one;
       other = safe.other;
@@ -292,19 +292,19 @@ lits-safe {p} houses {from} {to} each of visited safe =
 
 -- rows that no cell that waits is in
 pub out-idle : {W : Type 0} {bits : W → ℕ} {room : ℕ} {p : Light} {from : Layers} {notes : LightNotes W} {first end : ℕ} → AreLightsReady bits room p from notes
-    → IsReach bits p notes.waits.ones first end → (y : ℕ) → y < p.size.h → (y < first) ⊎ (end ≤ y) → AreIdle (lits_of_row p y) (has from)
+    → IsReach bits p notes.waits.ones first end → (y : ℕ) → y < p.size.h → (y < first) ⊎ (end ≤ y) → AreIdle (lits_of_row p y) (planes_have from)
 out-idle {p = p} {from = from} ready reach y y_in out =
-    below-idle (λ x. lit_house p (y * p.size.w + x)) p.size.w (has from)
+    below-idle (λ x. lit_house p (y * p.size.w + x)) p.size.w (planes_have from)
     (λ x lt. ready.rested.whites (y * p.size.w + x) (place-in p.size.w p.size.h y x y_in lt) (reach.away y x y_in lt out))
 
 pub row-stays : {room : ℕ} {p : Light} {y : ℕ} {from to : Layers} {m : ℕ} → ArePlanesOf room p from → m ≤ p.size.h → y < p.size.h
-    → AreVisited (houses_below (lits_of_row p) m) from to true → AreIdle (lits_of_row p y) (has from) → AreIdle (lits_of_row p y) (has to)
+    → AreVisited (houses_below (lits_of_row p) m) from to true → AreIdle (lits_of_row p y) (planes_have from) → AreIdle (lits_of_row p y) (planes_have to)
 row-stays {p} {y} of le y_in visited idle =
     quiet-stays (alls-quiet (light_cells p)) (lits_of_row p) (λ y lt. row-lits of.lawful lt) (rw of.size refl) of.alive le visited
     (lits_of_row p y) (row-lits of.lawful y_in) idle
 
 pub lits-done : {room : ℕ} (p : Light) {from to : Layers} → ArePlanesOf room p from → AreVisited (houses_below (lit_house p) (light_cells p)) from to true
-    → (c : ℕ) → c < light_cells p → AreIdle (lit_house p c) (has to)
+    → (c : ℕ) → c < light_cells p → AreIdle (lit_house p c) (planes_have to)
 lits-done p of visited = quiet-done (alls-quiet (light_cells p)) (lit_house p) (λ c lt. lits-each of.lawful lt) (rw of.size refl) of.alive (omega arith) visited
 
 -- ---- the houses in order
@@ -327,7 +327,7 @@ planes-next of further alive = grind (arith, common_steps)
 -- what does not wait is idle again
 pub ready-next : {W : Type 0} {bits : W → ℕ} {room : ℕ} {p : Light} {from to : Layers} {notes : LightNotes W} → AreLightsReady bits room p from notes
     → IsFurther from to → ArePlanesAlive to → (now : LightNotes W) → now.tables ≡ notes.tables
-    → AreLightsRested bits p now.waits (has to) → AreLightsReady bits room p to now
+    → AreLightsRested bits p now.waits (planes_have to) → AreLightsReady bits room p to now
 ready-next {bits = bits} {room = room} {p = p} ready further alive now tables rested = grind (arith, common_steps, planes-next)
 
 -- ---- what a closing asks of planes

@@ -1,5 +1,5 @@
 -- Sweeps of planes, closings by them, and lines that wait.
-use Rattle.fields_core.proofs.Common.{AreHouses, AreLinesOf, AreMet, ArePlanesAlive, AreSpread, AreVisited, Bool, Candidates, CountHouse, CountPuzzle, Dead, IsClosedAround, IsClosedGrid, IsClosing, IsCounting, IsFurther, IsInside, IsLostIn, IsSweep, IsWithin, Layers, List, Open, RuleSystem, Touched, [], after_visits, and_parts, ap, arith, back_at, by_fillings-met, cases_Bool, cases_eq, cells_of, common_steps, count-lawful, count_below, count_below-pos, count_house_of, count_puzzle, counts_between, false, false_from_ne_true, further-more, further-none, has, has_bit, has_place-here, inl, inr, is_dead, is_dead-each, is_dead-here, is_dead-not, lt-ltb, ltb, max, max_cells, meets_house, only-inside, only-other, or_parts, refl, rules_of, single-at, slice_index, start_of, strikes_of, swept_by, sym, total, true, true≢false, within_inside, ℕ, ◌%◌, ◌&&◌, ◌*◌, ◌+◌, ◌-◌, ◌/◌, ◌<◌, ◌∙◌, ◌≡◌, ◌≤◌, ◌⊎◌}
+use Rattle.fields_core.proofs.Common.{AreHouses, AreLinesOf, AreMet, ArePlanesAlive, AreSpread, AreVisited, Bool, Candidates, CountHouse, CountPuzzle, Dead, IsClosedAround, IsClosedGrid, IsClosing, IsCounting, IsFurther, IsInside, IsLostIn, IsSweep, IsWithin, Layers, List, Open, RuleSystem, Touched, [], after_visits, and_parts, ap, arith, back_at, by_fillings-met, cases_Bool, cases_eq, plane_cells, common_steps, count-lawful, count_below, count_below-pos, count_house_of, count_puzzle, counts_between, false, false_from_ne_true, further-more, further-none, planes_have, has_bit, has_place-here, inl, inr, is_dead, is_dead-each, is_dead-here, is_dead-not, lt-ltb, ltb, max, max_cells, meets_house, only-inside, only-other, or_parts, refl, rules_of, single-at, slice_index, start_of, strikes_of, swept_by, sym, total, true, true≢false, within_inside, ℕ, ◌%◌, ◌&&◌, ◌*◌, ◌+◌, ◌-◌, ◌/◌, ◌<◌, ◌∙◌, ◌≡◌, ◌≤◌, ◌⊎◌}
 use Rattle.engine_core.proofs.SweepLemmas.{IsSwept, fewer, sweep-shut, swept-dead, swept-first, swept-idle, swept-turn}
 use Rattle.fields_core.proofs.VisitLemmas.{IsBinaryAlive, replay-visits}
 use Rattle.engine_core.proofs.QueueLemmas.{alive_around}
@@ -22,16 +22,16 @@ pub counted-some : (K : Candidates) (c : ℕ) → 0 < count_below (K c) 2 → (K
 unfolding count_below
 counted-some K c some = grind (arith, common_steps, cases_Bool (K c 0), cases_Bool (K c 1))
 
-pub cells-alive : {cells : ℕ} (s : Layers) → cells_of s ≡ cells → is_dead cells 2 (has s) ≡ false → ArePlanesAlive s
-cells-alive {cells} s size alive = λ c lt. counted-some (has s) c (is_dead-not cells 2 (has s) c alive (rw size at lt))
+pub cells-alive : {cells : ℕ} (s : Layers) → plane_cells s ≡ cells → is_dead cells 2 (planes_have s) ≡ false → ArePlanesAlive s
+cells-alive {cells} s size alive = λ c lt. counted-some (planes_have s) c (is_dead-not cells 2 (planes_have s) c alive (rw size at lt))
 
-pub alive-cells : {cells : ℕ} (s : Layers) → cells_of s ≡ cells → ArePlanesAlive s → is_dead cells 2 (has s) ≡ false
+pub alive-cells : {cells : ℕ} (s : Layers) → plane_cells s ≡ cells → ArePlanesAlive s → is_dead cells 2 (planes_have s) ≡ false
 alive-cells {cells} s size alive = grind (arith, common_steps, is_dead-each, some-counted)
 
 -- so many sweeps took the planes from the first to the second, and each took something
 pub record AreSweepsOf (p : RuleSystem) (from : Layers) (sweeps : ℕ) (to : Layers) : Type 0 where
   pub alive : ArePlanesAlive to
-  pub swept : IsSwept p (has from) sweeps (has to)
+  pub swept : IsSwept p (planes_have from) sweeps (planes_have to)
   pub further : IsFurther from to
 
 module _ (cells : ℕ) (blocked : ℕ → Bool) (houses : List CountHouse) (is_solution : List ℕ → Bool) where
@@ -39,53 +39,53 @@ module _ (cells : ℕ) (blocked : ℕ → Bool) (houses : List CountHouse) (is_s
   rules = count_puzzle cells blocked houses is_solution
 
   -- ---- one sweep
-  pub visits-swept : {from to : Layers} {fills : Bool} → cells_of from ≡ cells → AreVisited houses from to fills → IsSweep rules from to fills
+  pub visits-swept : {from to : Layers} {fills : Bool} → plane_cells from ≡ cells → AreVisited houses from to fills → IsSweep rules from to fills
   visits-swept {from} size visited =
-      let is = replay-visits cells blocked houses is_solution (has from) in
+      let is = replay-visits cells blocked houses is_solution (planes_have from) in
       record {
         left = λ e. visited.left e ∙ sym is;
         dies = λ e. let w = visited.dies e in rw is
-            (is_dead-here cells 2 (after_visits houses (has from)) w.0 (rw size at w.1)
-            (none-counted (after_visits houses (has from)) w.0 w.2));
+            (is_dead-here cells 2 (after_visits houses (planes_have from)) w.0 (rw size at w.1)
+            (none-counted (after_visits houses (planes_have from)) w.0 w.2));
         alive = visited.alive;
         further = visited.further;
       }
 
   -- ---- sweeps up to the last
-  pub sweeps-none : {from : Layers} → cells_of from ≡ cells → ArePlanesAlive from → AreSweepsOf rules from 0 from
+  pub sweeps-none : {from : Layers} → plane_cells from ≡ cells → ArePlanesAlive from → AreSweepsOf rules from 0 from
   sweeps-none {from} size alive = record {
     alive = alive;
-    swept = swept-first rules (has from) (alive-cells from size alive);
+    swept = swept-first rules (planes_have from) (alive-cells from size alive);
     further = further-none from;
   }
 
   module _ {from : Layers} {sweeps : ℕ} {to next : Layers} {fills : Bool}
-      (counting : IsCounting cells blocked houses is_solution) (size : cells_of from ≡ cells) (within : IsWithin cells 2 (has from))
+      (counting : IsCounting cells blocked houses is_solution) (size : plane_cells from ≡ cells) (within : IsWithin cells 2 (planes_have from))
       (s : AreSweepsOf rules from sweeps to) (sweep : IsSweep rules to next fills) where
-    within-to : IsWithin cells 2 (has to)
-    within-to = within_inside cells 2 (has to) (has from) within s.further.inside
+    within-to : IsWithin cells 2 (planes_have to)
+    within-to = within_inside cells 2 (planes_have to) (planes_have from) within s.further.inside
 
     pub sweeps-few : sweeps ≤ max_cells * 2
     sweeps-few = omega (arith, s.swept.enough, counting.few_cells)
 
-    pub sweeps-fewer : fills ≡ true → to.len < next.len → total cells 2 (has next) < total cells 2 (has to)
-    sweeps-fewer full more = fewer rules (has to) (has next) within-to (sweep.left full) (sweep.further.lost more)
+    pub sweeps-fewer : fills ≡ true → to.len < next.len → total cells 2 (planes_have next) < total cells 2 (planes_have to)
+    sweeps-fewer full more = fewer rules (planes_have to) (planes_have next) within-to (sweep.left full) (sweep.further.lost more)
 
     pub sweeps-turn : fills ≡ true → to.len < next.len → AreSweepsOf rules from (sweeps + 1) next
     sweeps-turn full more = record {
       alive = sweep.alive;
-      swept = swept-turn rules (has from) sweeps (has to) (has next) s.swept within-to (sweep.left full) (sweep.further.lost more) (alive-cells next (rw (sweep.further.same_size) (rw (s.further.same_size) size)) sweep.alive);
+      swept = swept-turn rules (planes_have from) sweeps (planes_have to) (planes_have next) s.swept within-to (sweep.left full) (sweep.further.lost more) (alive-cells next (rw (sweep.further.same_size) (rw (s.further.same_size) size)) sweep.alive);
       further = further-more from to next s.further sweep.further;
     }
 
-    pub closed-dead : fills ≡ false → IsClosing rules (has from) (swept_by rules (has to)) Dead [] (sweeps + 1)
-    closed-dead none = swept-dead rules (count-lawful _ _ _ _ counting) (has from) sweeps (has to) refl within s.swept (sweep.dies none)
+    pub closed-dead : fills ≡ false → IsClosing rules (planes_have from) (swept_by rules (planes_have to)) Dead [] (sweeps + 1)
+    closed-dead none = swept-dead rules (count-lawful _ _ _ _ counting) (planes_have from) sweeps (planes_have to) refl within s.swept (sweep.dies none)
 
-    pub closed-open : fills ≡ true → next.len ≡ to.len → IsClosing rules (has from) (has next) Open [] (max sweeps 1)
+    pub closed-open : fills ≡ true → next.len ≡ to.len → IsClosing rules (planes_have from) (planes_have next) Open [] (max sweeps 1)
     closed-open full same =
         let idle = sweep.further.same same in
         swept-idle (count-lawful _ _ _ _ counting) sweeps refl within s.swept (sweep.left full) idle
-        (sweep-shut rules (has to) (sym (sweep.left full) ∙ idle))
+        (sweep-shut rules (planes_have to) (sym (sweep.left full) ∙ idle))
 
 -- ---- closed grids
 -- a grid from which no house strikes anything meets each house with a cell
@@ -119,8 +119,8 @@ pub value-kept : {K L : Candidates} (c v : ℕ) → IsInside L K → (K c v ≡ 
 value-kept {K} {L} c v inside never = grind (arith, common_steps, cases_Bool, false_from_ne_true)
 
 -- the board when the trail had that length
-pub back-whole : {from to : Layers} {len : ℕ} → from.len ≡ len → IsFurther from to → back_at to len ≡ has from
-back-whole {from} is further = rw (← is) (further.back from.len (omega arith) ∙ put_back-none (turned_by from.size.w) no_taking (has from) from.takings from.len from.len (omega arith))
+pub back-whole : {from to : Layers} {len : ℕ} → from.len ≡ len → IsFurther from to → back_at to len ≡ planes_have from
+back-whole {from} is further = rw (← is) (further.back from.len (omega arith) ∙ put_back-none (turned_by from.size.w) no_taking (planes_have from) from.takings from.len from.len (omega arith))
 
 -- ---- a board that is closed but around a cell
 module _ (p : CountPuzzle) {K : Candidates} {place : ℕ} (around : IsClosedAround (rules_of p) K place) where

@@ -1,5 +1,5 @@
 -- The count houses of Tents, and visits of them on planes.
-use Rattle.fields_core.proofs.Common.{AllByRecursion, AreCounts, AreDistinct, ArePlanesAlive, AreVisited, Bool, Column, CountHouse, Extent, IsBroken, IsCounting, IsFurther, IsGrid, IsHouse, IsHouseOfPieces, IsLawful, IsTents, Layers, List, Piece, Row, Tents, ℕ, [], after_house, all_below, all_below-at, and_from, and_parts, any_below-here, ap, are_near, arith, can_be_paired, cases_eq, cases_lt, column-at, column_of_tents, column_places, column_right, common_steps, count-lawful, count_by-le-length, distinct-filter, eq-eqb, eqb, eqb-true, exactly, false, false_from_ne_true, filling_from_test, filter, free_beside, get_or, get_or-map, get_or-map-range_with_len, get_or-range_with_len, get_or_past, has, has_bit, has_place, has_place-at, has_place-here, has_value, has_value_below, houses_below, inl, inr, is_barred, le-leb, leaves_none_out, length, length-map, length-map-range_with_len, length-range_with_len, lt-ltb, ltb, ltb-true, mul-le-mul_right, names_none_twice, ne_eqb, not, not-true, one_at_least, one_at_most, or_cases, place-filter, place-kept, range_with_len, row-at, row_of_tents, row_places, row_right, slice_index, solves_tents, square_house, steps, suc, sym, tent, tent_cells, tent_houses, tent_rules, touch_right, touches, tree, tree_house, tree_right, trees_beside, true, true≢false, zero, ◌%◌, ◌&&◌, ◌+◌, ◌/◌, ◌<◌, ◌||◌, ◌∙◌, ◌∷◌, ◌≡◌, ◌≤◌}
+use Rattle.fields_core.proofs.Common.{AllByRecursion, AreCounts, AreDistinct, ArePlanesAlive, AreVisited, Bool, Column, CountHouse, Extent, IsBroken, IsCounting, IsFurther, IsGrid, IsHouse, IsHouseOfPieces, IsLawful, IsTents, Layers, List, Piece, Row, Tents, ℕ, [], after_house, all_below, all_below-at, and_from, and_parts, any_below-here, ap, are_near, arith, can_be_paired, cases_eq, cases_lt, column-at, column_of_tents, column_places, column_right, common_steps, count-lawful, count_by-le-length, distinct-filter, eq-eqb, eqb, eqb-true, exactly, false, false_from_ne_true, filling_from_test, filter, free_beside, get_or, get_or-map, get_or-map-range_with_len, get_or-range_with_len, get_or_past, planes_have, has_bit, has_place, has_place-at, has_place-here, has_value, has_value_below, houses_below, inl, inr, is_barred, le-leb, leaves_none_out, length, length-map, length-map-range_with_len, length-range_with_len, lt-ltb, ltb, ltb-true, mul-le-mul_right, names_none_twice, ne_eqb, not, not-true, one_at_least, one_at_most, or_cases, place-filter, place-kept, range_with_len, row-at, row_of_tents, row_places, row_right, slice_index, solves_tents, square_house, steps, suc, sym, tent, tent_cells, tent_houses, tent_rules, touch_right, touches, tree, tree_house, tree_right, trees_beside, true, true≢false, zero, ◌%◌, ◌&&◌, ◌+◌, ◌/◌, ◌<◌, ◌||◌, ◌∙◌, ◌∷◌, ◌≡◌, ◌≤◌}
 use Rattle.grid_core.specs.Lines.{line_cells}
 use Rattle.fields_core.proofs.HouseLemmas.{all-append, all-at, all-houses, all-if, column-long, row-long}
 use Rattle.fields_core.proofs.PlaceLists.{any-here, count-one, count-some, filter-few}
@@ -272,7 +272,7 @@ module _ (p : Tents) (lawful : IsTents p) where
 -- what a visit says of each house of its pieces
 abbrev pub IsVisitOfPieces : List Piece → ℕ → ℕ → Layers → Layers → Bool → Type 0
 IsVisitOfPieces pieces least most from to fills = (house : CountHouse) → IsHouseOfPieces from.size pieces least most house
-    → (fills ≡ true → has to ≡ after_house house (has from)) × (fills ≡ false → IsBroken house (has from))
+    → (fills ≡ true → planes_have to ≡ after_house house (planes_have from)) × (fills ≡ false → IsBroken house (planes_have from))
 
 -- ---- lines
 pub column-visited : {p : Tents} {x : ℕ} (bits ones : ℕ) {from to : Layers} (fills : Bool) → IsTents p

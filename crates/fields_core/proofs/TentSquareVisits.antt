@@ -1,5 +1,5 @@
 -- The squares of two rows of Tents, and visits of them.
-use Rattle.fields_core.proofs.Common.{AllByRecursion, ArePlanesAlive, AreVisited, Bool, Candidates, CountHouse, Extent, IsFurther, IsHouse, IsTents, Layers, Row, Tents, [], and-false, and_from, and_parts, any_below, any_below-here, any_below-none, any_below-some, ap, arith, bit_of, cases_Bool, cases_lt, common_steps, count_by, covers, crosses, div-mul-add, eq-eqb, eqb, eqb-true, false, false≢true, fun_ext, has, has_bit, has_place, houses_below, inl, inr, le-ltb, lies_in, lies_in_first, list_any, lt-ltb, ltb, ltb-true, mod-lt, mul-le-mul_right, not, not-false, not-true, one_at_most, or_cases, or_left, or_parts, or_right, place-column, refl, square_house, squares_of_row, suc, sym, tent_cells, true, two_rows, without_taking, without_value, zero, ℕ, ◌%◌, ◌&&◌, ◌*◌, ◌+◌, ◌-◌, ◌/◌, ◌<◌, ◌||◌, ◌∙◌, ◌∷◌, ◌≡◌, ◌≢◌, ◌≤◌, ◌⊎◌}
+use Rattle.fields_core.proofs.Common.{AllByRecursion, ArePlanesAlive, AreVisited, Bool, Candidates, CountHouse, Extent, IsFurther, IsHouse, IsTents, Layers, Row, Tents, [], and-false, and_from, and_parts, any_below, any_below-here, any_below-none, any_below-some, ap, arith, bit_of, cases_Bool, cases_lt, common_steps, count_by, covers, crosses, div-mul-add, eq-eqb, eqb, eqb-true, false, false≢true, fun_ext, planes_have, has_bit, has_place, houses_below, inl, inr, le-ltb, lies_in, lies_in_first, list_any, lt-ltb, ltb, ltb-true, mod-lt, mul-le-mul_right, not, not-false, not-true, one_at_most, or_cases, or_left, or_parts, or_right, place-column, refl, square_house, squares_of_row, suc, sym, tent_cells, true, two_rows, without_taking, without_value, zero, ℕ, ◌%◌, ◌&&◌, ◌*◌, ◌+◌, ◌-◌, ◌/◌, ◌<◌, ◌||◌, ◌∙◌, ◌∷◌, ◌≡◌, ◌≢◌, ◌≤◌, ◌⊎◌}
 unfoldable use Rattle.fields_core.proofs.VisitLemmas.{is_met, without_met}
 use Rattle.fields_core.proofs.CellLemmas.{cell-is, same-truth}
 use Rattle.fields_core.proofs.PlaceLists.{count-cons}
@@ -155,8 +155,8 @@ module _ (p : Tents) (y : ℕ) (lawful : IsTents p) (low : y + 1 < p.size.h) whe
 -- Visits of the squares of two rows of Tents.
 
 -- ---- visits of the squares of two rows
-pub zero-at : (q : Layers) (y : ℕ) {u : ℕ} {w : ℕ} → q.size.w ≡ w → u < w → has q (y * w + u) 0 ≡ bit_of q.rows y 0 u
-unfolding has
+pub zero-at : (q : Layers) (y : ℕ) {u : ℕ} {w : ℕ} → q.size.w ≡ w → u < w → planes_have q (y * w + u) 0 ≡ bit_of q.rows y 0 u
+unfolding planes_have
 zero-at q y {u} same lt = rw (same, div-mul-add y _ u lt, place-column _ y u lt) refl
 
 lies-two : (w y near c : ℕ) → lies_in_first w (two_rows y near) 2 c ≡ (in_rows w y c && has_bit near (c % w))
@@ -166,22 +166,22 @@ lies-two w y near c = by (eqb (c / w) y) (eqb (c / w) (y + 1)) (has_bit near (c 
     by : (a b n : Bool) → ((false || (a && n)) || (b && n)) ≡ ((a || b) && n)
     by a b n = grind (arith, common_steps, cases_Bool a, cases_Bool b, cases_Bool n)
 
-zero-here : (q : Layers) (c : ℕ) → has q c 0 ≡ bit_of q.rows (c / q.size.w) 0 (c % q.size.w)
-unfolding has
+zero-here : (q : Layers) (c : ℕ) → planes_have q c 0 ≡ bit_of q.rows (c / q.size.w) 0 (c % q.size.w)
+unfolding planes_have
 zero-here q c = refl
 
 -- ones taken from the cells of two rows at these places that have 0
 pub rows-struck : (from : Layers) {middle last : Candidates} (y near upper lower : ℕ) {width : ℕ} → width ≡ from.size.w
     → ((u : ℕ) → has_bit upper u ≡ (has_bit near u && bit_of from.rows y 0 u))
     → ((u : ℕ) → has_bit lower u ≡ (has_bit near u && bit_of from.rows (y + 1) 0 u))
-    → middle ≡ without_taking from.size.w (has from) (record { line = Row y; value = 1; bits = upper })
+    → middle ≡ without_taking from.size.w (planes_have from) (record { line = Row y; value = 1; bits = upper })
     → last ≡ without_taking width middle (record { line = Row (y + 1); value = 1; bits = lower })
-    → last ≡ without_value from.size.w (two_rows y near) 2 1 (has from)
+    → last ≡ without_value from.size.w (two_rows y near) 2 1 (planes_have from)
 unfolding without_taking covers crosses without_value
 rows-struck from y near upper lower same upper_is lower_is first second = second ∙ fun_ext λ c. fun_ext λ v.
     let w = from.size.w in
     rw (same, first, lies-two w y near c, zero-here from c)
-    (by (has from c v) (eqb v 1) (eqb (c / w) y) (eqb (c / w) (y + 1)) (has_bit near (c % w)) (bit_of from.rows (c / w) 0 (c % w)) (has_bit upper (c % w)) (has_bit lower (c % w))
+    (by (planes_have from c v) (eqb v 1) (eqb (c / w) y) (eqb (c / w) (y + 1)) (has_bit near (c % w)) (bit_of from.rows (c / w) 0 (c % w)) (has_bit upper (c % w)) (has_bit lower (c % w))
     (λ on. upper_is (c % w) ∙ rw (eqb-true _ _ on) refl)
     (λ on. lower_is (c % w) ∙ rw (eqb-true _ _ on) refl))
   where
@@ -202,7 +202,7 @@ module _ (p : Tents) (y : ℕ) (from : Layers) (room twice must : ℕ) (lawful :
   width = p.size.w
 
   abbrev zeros : ℕ → Bool
-  zeros = zeros_of (has from)
+  zeros = zeros_of (planes_have from)
 
   upper-at : {u : ℕ} → u < width → bit_of from.rows y 0 u ≡ zeros (y * width + u)
   upper-at {u} lt = sym (zero-at from y (ap (λ (s : Extent). s.w) size) lt)
@@ -223,7 +223,7 @@ module _ (p : Tents) (y : ℕ) (from : Layers) (room twice must : ℕ) (lawful :
       let in_d = square-has y x d lt ∙ and_from _ _ row_d column_d in
       let in_e = square-has y x e lt ∙ and_from _ _ row_e column_e in
       visited-dies d (rw size ((house-is p y lawful low x lt).within d in_d)) (λ v small.
-      visits-two (tent_cells p) (squares_of_row p y) (has from) d e v
+      visits-two (tent_cells p) (squares_of_row p y) (planes_have from) d e v
       (each-square p y lawful low (λ house. IsHouse (tent_cells p) house × (house.most ≡ 1)) (λ k less. (house-is p y lawful low k less, refl)))
       ne (some-square p y lawful low (λ house. has_place house.places d && has_place house.places e) x lt (and_from _ _ in_d in_e))
       off_d off_e small) alive
@@ -281,14 +281,14 @@ module _ (p : Tents) (y : ℕ) (from : Layers) (room twice must : ℕ) (lawful :
       → ((u : ℕ) → has_bit pairs u ≡ (has_bit must u && (ltb u room && (ltb 0 u && has_bit must (u - 1)))))
       → any_below (has_bit pairs) room ≡ false
       → ((u : ℕ) → has_bit near u ≡ ((has_bit must u || (ltb u room && (ltb 0 u && has_bit must (u - 1)))) || has_bit must (u + 1)))
-      → has to ≡ without_value from.size.w (two_rows y near) 2 1 (has from) → IsFurther from to
+      → planes_have to ≡ without_value from.size.w (two_rows y near) 2 1 (planes_have from) → IsFurther from to
       → AreVisited (squares_of_row p y) from to true
   unfolding without_value without_met
   squares-met pairs near {to} once is apart near_is left further =
-      visited-left (met ∙ sym (visits-met (squares_of_row p y) (has from) full each))
+      visited-left (met ∙ sym (visits-met (squares_of_row p y) (planes_have from) full each))
       (struck-alive from to (two_rows y near) 2 1 further.same_size (omega arith) alive left) further
     where
-      full : IsBinaryAlive (tent_cells p) (has from)
+      full : IsBinaryAlive (tent_cells p) (planes_have from)
       full = record { low = value-in from; some = λ c lt. alive c (rw size lt) }
 
       once-at : (u : ℕ) → u < width → (zeros (y * width + u) || zeros ((y + 1) * width + u)) ≡ true
@@ -318,8 +318,8 @@ module _ (p : Tents) (y : ℕ) (from : Layers) (room twice must : ℕ) (lawful :
           ∙ (lies-two width y near c ∙ near-met p y lawful low zeros (has_bit must) (has_bit near) wide must-at
           (λ u lt. near_is u ∙ rw (lt-ltb u room (omega (arith, are.fits))) refl) c)
 
-      met : has to ≡ without_met (squares_of_row p y) (has from)
-      met = left ∙ fun_ext λ c. fun_ext λ v. ap (λ b. has from c v && not (eqb v 1 && (has from c 0 && b))) (hits c)
+      met : planes_have to ≡ without_met (squares_of_row p y) (planes_have from)
+      met = left ∙ fun_ext λ c. fun_ext λ v. ap (λ b. planes_have from c v && not (eqb v 1 && (planes_have from c 0 && b))) (hits c)
 
 -- ---- where there is no square
 pub none-below : (p : Tents) (y : ℕ) (from : Layers) → 0 < p.size.w → (p.size.w < 2) ⊎ (p.size.h ≤ y + 1) → ArePlanesAlive from

@@ -1,5 +1,5 @@
 -- Cells of Tents that touch and must both have a tent.
-use Rattle.fields_core.proofs.Common.{AllByRecursion, ArePlanesAlive, AreVisited, AreVisitedOrDoomed, Bool, Column, CountHouse, Extent, HasTouching, IsHouse, IsTents, Layers, Line, List, Row, Squares, Tents, [], all_of_kind, and_from, and_parts, any_below-here, append-nil, append_assoc, arith, at_line, bit_of, cases_lt, div-mul-add, eq-eqb, eqb, false, false_from_ne_true, has, has_place, inl, inr, later_kinds, leb-true, line_len, lines_beside, list_any, ltb-true, mod-lt, not, not-true, number_of, or_left, or_right, place-column, place-in, refl, square_house, squares_of_row, subst, sym, tent_cells, touches, true, true≢false, ℕ, ◌%◌, ◌&&◌, ◌*◌, ◌++◌, ◌+◌, ◌-◌, ◌/◌, ◌<◌, ◌||◌, ◌∙◌, ◌≡◌, ◌≤◌}
+use Rattle.fields_core.proofs.Common.{AllByRecursion, ArePlanesAlive, AreVisited, AreVisitedOrDoomed, Bool, Column, CountHouse, Extent, HasTouching, IsHouse, IsTents, Layers, Line, List, Row, Squares, Tents, [], all_of_kind, and_from, and_parts, any_below-here, append-nil, append_assoc, arith, at_line, bit_of, cases_lt, div-mul-add, eq-eqb, eqb, false, false_from_ne_true, planes_have, has_place, inl, inr, later_kinds, leb-true, line_len, lines_beside, list_any, ltb-true, mod-lt, not, not-true, number_of, or_left, or_right, place-column, place-in, refl, square_house, squares_of_row, subst, sym, tent_cells, touches, true, true≢false, ℕ, ◌%◌, ◌&&◌, ◌*◌, ◌++◌, ◌+◌, ◌-◌, ◌/◌, ◌<◌, ◌||◌, ◌∙◌, ◌≡◌, ◌≤◌}
 use Rattle.fields_core.specs.declared.planes.tents.waits.Kind.{Kind}
 unfoldable use Rattle.fields_core.proofs.Common.{after_visits}
 use Rattle.fields_core.proofs.BesideLemmas.{row-in}
@@ -79,20 +79,20 @@ in-square p {c} {d} is lc ld on =
     }
 
 -- ---- whatever is visited before them, the squares leave one of the two without a value
-pub touching-dies : (p : Tents) {q : Layers} → IsTents p → q.size ≡ p.size → ArePlanesAlive q → HasTouching q.size (has q) → (others : List CountHouse)
+pub touching-dies : (p : Tents) {q : Layers} → IsTents p → q.size ≡ p.size → ArePlanesAlive q → HasTouching q.size (planes_have q) → (others : List CountHouse)
     → AreVisited (others ++ all_of_kind p Squares) q q false
 touching-dies p {q} lawful size alive at others =
-    let touching : HasTouching p.size (has q) = subst (λ (extent : Extent). HasTouching extent (has q)) size at in
+    let touching : HasTouching p.size (planes_have q) = subst (λ (extent : Extent). HasTouching extent (planes_have q)) size at in
     let s = in-square p lawful touching.first_in touching.second_in touching.touch in
     let both : CountHouse → Bool = λ house. has_place house.places touching.first && has_place house.places touching.second in
-    visited-dies touching.first (rw size touching.first_in) (λ v small. rw (visits-append others (all_of_kind p Squares) (has q))
-    (visits-two (tent_cells p) (all_of_kind p Squares) (after_visits others (has q)) touching.first touching.second v each s.apart
+    visited-dies touching.first (rw size touching.first_in) (λ v small. rw (visits-append others (all_of_kind p Squares) (planes_have q))
+    (visits-two (tent_cells p) (all_of_kind p Squares) (after_visits others (planes_have q)) touching.first touching.second v each s.apart
     (any-houses both (squares_of_row p) p.size.h ∙ any_below-here (λ y. list_any both (squares_of_row p y)) p.size.h s.row (omega (arith, s.low))
     (some-square p s.row lawful s.low both s.column s.wide (and_from _ _ s.first_in s.second_in)))
     (stays touching.first touching.first_must) (stays touching.second touching.second_must) small)) alive
   where
-    stays : (c : ℕ) → has q c 0 ≡ false → after_visits others (has q) c 0 ≡ false
-    stays c off = false_from_ne_true _ (λ on. true≢false (sym (visits-inside others (has q) c 0 on) ∙ off))
+    stays : (c : ℕ) → planes_have q c 0 ≡ false → after_visits others (planes_have q) c 0 ≡ false
+    stays c off = false_from_ne_true _ (λ on. true≢false (sym (visits-inside others (planes_have q) c 0 on) ∙ off))
 
     each : AllByRecursion (λ house. IsHouse (tent_cells p) house × (house.most ≡ 1)) (all_of_kind p Squares)
     each = all-houses _ (squares_of_row p) p.size.h (λ y lt. all-houses _ (λ x. square_house p (y * p.size.w + x)) p.size.w (λ x less. all-if _ (λ is.
@@ -100,7 +100,7 @@ touching-dies p {q} lawful size alive at others =
         (square-is p lawful (place-in p.size.w p.size.h y x lt less) (ltb-true _ _ parts.0) (ltb-true _ _ parts.1), refl))))
 
 pub visited-apart : (p : Tents) (kind : Kind) {houses : List CountHouse} {from to : Layers} {apart : Bool} → IsTents p → from.size ≡ p.size
-    → AreVisited houses from to true → (apart ≡ false → HasTouching to.size (has to)) → (front : List CountHouse)
+    → AreVisited houses from to true → (apart ≡ false → HasTouching to.size (planes_have to)) → (front : List CountHouse)
     → later_kinds p kind ≡ front ++ all_of_kind p Squares → AreVisitedOrDoomed p kind houses from to apart
 visited-apart p kind lawful size first touching front is = record {
   left = λ _. first;
@@ -123,7 +123,7 @@ last-visited p {houses} {fills = false} visited = rw (append-nil houses) at (vis
 
 -- ---- two cells beside each other in a line
 two-cells : (q : Layers) {r c s d : ℕ} → r < q.size.h → c < q.size.w → s < q.size.h → d < q.size.w → r ≤ s + 1 → s ≤ r + 1 → c ≤ d + 1 → d ≤ c + 1
-    → (s ≡ r → d ≡ c → ⊥) → bit_of q.rows r 0 c ≡ false → bit_of q.rows s 0 d ≡ false → HasTouching q.size (has q)
+    → (s ≡ r → d ≡ c → ⊥) → bit_of q.rows r 0 c ≡ false → bit_of q.rows s 0 d ≡ false → HasTouching q.size (planes_have q)
 two-cells q {r} {c} {s} {d} lr lc ls ld rs sr cd dc other first second =
     let w = q.size.w in
     record {
@@ -139,7 +139,7 @@ two-cells q {r} {c} {s} {d} lr lc ls ld rs sr cd dc other first second =
     }
 
 pub beside-touch : (q : Layers) (line : Line) {k : ℕ} → number_of line < lines_beside q.size line → 0 < k → k < line_len q.size line
-    → at_line q line 0 k ≡ false → at_line q line 0 (k - 1) ≡ false → HasTouching q.size (has q)
+    → at_line q line 0 k ≡ false → at_line q line 0 (k - 1) ≡ false → HasTouching q.size (planes_have q)
 beside-touch q (Row y) {k} ln pos lt own before =
     two-cells q {r = y} {c = k} {s = y} {d = k - 1} ln lt ln (omega arith) (omega arith) (omega arith) (omega arith) (omega arith) (λ e f. absurd (omega arith)) own before
 beside-touch q (Column x) {k} ln pos lt own before =

@@ -1,5 +1,5 @@
 -- What visits of the trees of a row take from a board.
-use Rattle.fields_core.proofs.Common.{ArePlanesAlive, AreVisited, Bool, Candidates, CountHouse, IsFurther, IsHouse, IsInside, IsRowOf, IsTents, Layers, List, Tents, [], after_house, after_visits, and-true, and_parts, any_below, any_below-none, any_below-same, any_below-some, ap, arith, beside, cases_Bool, common_steps, count_by, count_by-le-length, eqb, false, false_from_ne_true, filter, free_beside, fun_ext, has, has_bit, has_place, has_place-here, houses_below, inl, inr, is_beside, length, length-filter, list_any, lt-ltb, ltb, ltb-false, ltb-true, not, not-false, not-true, one_at_least, place-in, refl, slice_index, suc, sym, tent_cells, tree, tree_house, trees_of_row, true, true≢false, wants_tent, without_zeros, zero, ℕ, ◌&&◌, ◌*◌, ◌++◌, ◌+◌, ◌-◌, ◌<◌, ◌||◌, ◌∙◌, ◌∷◌, ◌≡◌, ◌≤◌, ◌⊎◌}
+use Rattle.fields_core.proofs.Common.{ArePlanesAlive, AreVisited, Bool, Candidates, CountHouse, IsFurther, IsHouse, IsInside, IsRowOf, IsTents, Layers, List, Tents, [], after_house, after_visits, and-true, and_parts, any_below, any_below-none, any_below-same, any_below-some, ap, arith, beside, cases_Bool, common_steps, count_by, count_by-le-length, eqb, false, false_from_ne_true, filter, free_beside, fun_ext, planes_have, has_bit, has_place, has_place-here, houses_below, inl, inr, is_beside, length, length-filter, list_any, lt-ltb, ltb, ltb-false, ltb-true, not, not-false, not-true, one_at_least, place-in, refl, slice_index, suc, sym, tent_cells, tree, tree_house, trees_of_row, true, true≢false, wants_tent, without_zeros, zero, ℕ, ◌&&◌, ◌*◌, ◌++◌, ◌+◌, ◌-◌, ◌<◌, ◌||◌, ◌∙◌, ◌∷◌, ◌≡◌, ◌≤◌, ◌⊎◌}
 use Rattle.fields_core.proofs.PartLemmas.{value-in}
 use Rattle.fields_core.proofs.PlaceLists.{count-cons, count-none, count-some, filter-has}
 use Rattle.fields_core.proofs.TentCounting.{tree-is}
@@ -108,9 +108,9 @@ any-count test (x ∷ xs) = grind (arith, common_steps, cases_Bool (test x), cou
 module _ (p : Tents) (y : ℕ) (from : Layers) (room : ℕ) (wants some broken : ℕ) (lawful : IsTents p) (size : from.size ≡ p.size) (y_in : y < p.size.h) (alive : ArePlanesAlive from)
     (narrow : p.size.w ≤ room)
     (wants_is : IsRowOf p.size.w (wants_tent p) y wants)
-    (some_is : (x : ℕ) → x < p.size.w → has_bit some x ≡ ltb 0 (count_by (λ c. not (tree p c) && has from c 1) (beside p.size (y * p.size.w + x))))
+    (some_is : (x : ℕ) → x < p.size.w → has_bit some x ≡ ltb 0 (count_by (λ c. not (tree p c) && planes_have from c 1) (beside p.size (y * p.size.w + x))))
     (broken_is : (x : ℕ) → has_bit broken x ≡ (has_bit wants x && not (has_bit some x))) where
-  full : (c : ℕ) → c < tent_cells p → (has from c 0 ≡ true) ⊎ (has from c 1 ≡ true)
+  full : (c : ℕ) → c < tent_cells p → (planes_have from c 0 ≡ true) ⊎ (planes_have from c 1 ≡ true)
   full c lt = alive c (rw size lt)
 
   -- a tree wants a tent where there is a free cell beside it
@@ -118,8 +118,8 @@ module _ (p : Tents) (y : ℕ) (from : Layers) (room : ℕ) (wants some broken :
   unfolding wants_tent
   wants-at {x} lt = wants_is x ∙ rw (lt-ltb _ _ lt, any-count (λ c. not (tree p c)) (beside p.size (y * p.size.w + x)), length-filter (λ c. not (tree p c)) (beside p.size (y * p.size.w + x))) refl
 
-  may-is : (x : ℕ) → may p (has from) y x ≡ count_by (λ c. not (tree p c) && has from c 1) (beside p.size (y * p.size.w + x))
-  may-is x = count-filtered (λ c. not (tree p c)) (λ c. has from c 1) (beside p.size (y * p.size.w + x))
+  may-is : (x : ℕ) → may p (planes_have from) y x ≡ count_by (λ c. not (tree p c) && planes_have from c 1) (beside p.size (y * p.size.w + x))
+  may-is x = count-filtered (λ c. not (tree p c)) (λ c. planes_have from c 1) (beside p.size (y * p.size.w + x))
 
   -- a tree whose free cells can have no tent
   pub row-dead : any_below (has_bit broken) room ≡ true → AreVisited (trees_of_row p y) from from false
@@ -128,13 +128,13 @@ module _ (p : Tents) (y : ℕ) (from : Layers) (room : ℕ) (wants some broken :
       let lt : w.0 < p.size.w = ltb-true _ _ (and_parts _ _ (sym (wants_is w.0) ∙ parts.0)).0 in
       let here = and_parts _ _ (sym (wants-at lt) ∙ parts.0) in
       let long : 0 < length (free_beside p (y * p.size.w + w.0)) = ltb-true _ _ here.1 in
-      let none : may p (has from) y w.0 ≡ 0 = (let few = ltb-false _ _ (sym (some_is w.0 lt) ∙ not-true _ parts.1) in omega (arith, few, may-is w.0)) in
+      let none : may p (planes_have from) y w.0 ≡ 0 = (let few = ltb-false _ _ (sym (some_is w.0 lt) ∙ not-true _ parts.1) in omega (arith, few, may-is w.0)) in
       let there = has_place-here (free_beside p (y * p.size.w + w.0)) 0 long in
       let d = slice_index (free_beside p (y * p.size.w + w.0)) 0 in
       visited-dies d (rw size ((tree-is p lawful (place-in p.size.w p.size.h y w.0 y_in lt) here.0).within d there))
-      (λ v low. trees-dead p lawful (has from) y y_in (value-in from) full d lt here.0 none there low) alive
+      (λ v low. trees-dead p lawful (planes_have from) y y_in (value-in from) full d lt here.0 none there low) alive
 
-  filled : any_below (has_bit broken) room ≡ false → AreFilled p (has from) y p.size.w
+  filled : any_below (has_bit broken) room ≡ false → AreFilled p (planes_have from) y p.size.w
   filled off x lt is = elim (cases_Bool (ltb 0 (length (free_beside p (y * p.size.w + x))))) [
     | inr none ↦ inl (let few = ltb-false _ _ none in omega (arith, few))
     | inl on ↦
@@ -144,8 +144,8 @@ module _ (p : Tents) (y : ℕ) (from : Layers) (room : ℕ) (wants some broken :
   ]
 
   -- a tree with one free cell that can have a tent wants one
-  lone-wants : {x : ℕ} → x < p.size.w → (has_bit wants x && eqb (may p (has from) y x) 1) ≡ lone p (has from) y x
-  lone-wants {x} lt = rw (wants-at lt) (by (tree p (y * p.size.w + x)) (length (free_beside p (y * p.size.w + x))) (may p (has from) y x) (count_by-le-length _ (free_beside p (y * p.size.w + x))))
+  lone-wants : {x : ℕ} → x < p.size.w → (has_bit wants x && eqb (may p (planes_have from) y x) 1) ≡ lone p (planes_have from) y x
+  lone-wants {x} lt = rw (wants-at lt) (by (tree p (y * p.size.w + x)) (length (free_beside p (y * p.size.w + x))) (may p (planes_have from) y x) (count_by-le-length _ (free_beside p (y * p.size.w + x))))
     where
       by : (t : Bool) (long may : ℕ) → may ≤ long → ((t && ltb 0 long) && eqb may 1) ≡ (t && eqb may 1)
       by t zero zero le = grind (arith, common_steps, cases_Bool t)
@@ -154,19 +154,19 @@ module _ (p : Tents) (y : ℕ) (from : Layers) (room : ℕ) (wants some broken :
 
   -- the words of the trees that have one cell left, and what is taken beside them
   pub row-visited : (one ones : ℕ) {to : Layers} → any_below (has_bit broken) room ≡ false
-      → ((x : ℕ) → x < p.size.w → has_bit one x ≡ eqb (count_by (λ c. not (tree p c) && has from c 1) (beside p.size (y * p.size.w + x))) 1)
+      → ((x : ℕ) → x < p.size.w → has_bit one x ≡ eqb (count_by (λ c. not (tree p c) && planes_have from c 1) (beside p.size (y * p.size.w + x))) 1)
       → ((x : ℕ) → has_bit ones x ≡ (has_bit wants x && has_bit one x))
-      → has to ≡ without_zeros (λ c. (not (tree p c) && has from c 1) && is_beside p.size y (has_bit ones) p.size.w c) (has from)
+      → planes_have to ≡ without_zeros (λ c. (not (tree p c) && planes_have from c 1) && is_beside p.size y (has_bit ones) p.size.w c) (planes_have from)
       → IsFurther from to → AreVisited (trees_of_row p y) from to true
   unfolding is_beside
   row-visited one ones {to} off one_is ones_is left further =
-      let same : (x : ℕ) → x < p.size.w → has_bit ones x ≡ lone p (has from) y x = λ x lt. ones_is x ∙ rw (one_is x lt, sym (may-is x)) (lone-wants lt) in
-      let board : has to ≡ without_zeros (struck p (has from) y p.size.w) (has from) = left ∙ ap (λ (t : ℕ → Bool). without_zeros t (has from))
-      (fun_ext λ c. ap (λ b. (not (tree p c) && has from c 1) && b)
-      (any_below-same (λ x. has_bit ones x && has_place (beside p.size (y * p.size.w + x)) c) (λ x. lone p (has from) y x && has_place (beside p.size (y * p.size.w + x)) c) p.size.w
+      let same : (x : ℕ) → x < p.size.w → has_bit ones x ≡ lone p (planes_have from) y x = λ x lt. ones_is x ∙ rw (one_is x lt, sym (may-is x)) (lone-wants lt) in
+      let board : planes_have to ≡ without_zeros (struck p (planes_have from) y p.size.w) (planes_have from) = left ∙ ap (λ (t : ℕ → Bool). without_zeros t (planes_have from))
+      (fun_ext λ c. ap (λ b. (not (tree p c) && planes_have from c 1) && b)
+      (any_below-same (λ x. has_bit ones x && has_place (beside p.size (y * p.size.w + x)) c) (λ x. lone p (planes_have from) y x && has_place (beside p.size (y * p.size.w + x)) c) p.size.w
       (λ x lt. rw (same x lt) refl))) in
-      visited-left (board ∙ sym (trees-board p lawful (has from) y y_in (value-in from) full p.size.w (omega arith) (filled off)))
-      (λ c lt. rw board (zeros-full (struck p (has from) y p.size.w) (has from) c (struck-one p (has from) y p.size.w c) (alive c (rw (further.same_size) at lt)))) further
+      visited-left (board ∙ sym (trees-board p lawful (planes_have from) y y_in (value-in from) full p.size.w (omega arith) (filled off)))
+      (λ c lt. rw board (zeros-full (struck p (planes_have from) y p.size.w) (planes_have from) c (struck-one p (planes_have from) y p.size.w c) (alive c (rw (further.same_size) at lt)))) further
 
 -- ---- the trees of all rows
 pub trees-are : (p : Tents) → houses_below (trees_of_row p) p.size.h ≡ houses_below (tree_house p) (tent_cells p)

@@ -1,5 +1,5 @@
 -- Words of the cells of a row and of those beside them.
-use Rattle.fields_core.proofs.Common.{Bool, Candidates, Extent, IsNear, IsRowIn, IsRowOf, Layers, List, None, Row, Some, Tents, and-false, and_from, and_parts, any_below-here, any_below-some, ap, arith, beside, bit_of, cases_Bool, cases_lt, common_steps, cond, count_by, covers, crosses, differ, div-add-mod', div-mul-add, eq-eqb, eqb, eqb-true, false, false_from_ne_true, fun_ext, has, has_bit, has_place, if_there, inl, inr, is_barred, is_beside, le-ltb, lt-ltb, ltb, ltb-true, mod-lt, not, or_cases, or_left, or_right, place-column, refl, step, steps, suc, sum_by-append, sym, tree, true, wants_tent, without_taking, without_zeros, zero, ℕ, ◌%◌, ◌&&◌, ◌*◌, ◌++◌, ◌+◌, ◌-◌, ◌/◌, ◌<◌, ◌||◌, ◌∙◌, ◌≡◌, ◌≤◌}
+use Rattle.fields_core.proofs.Common.{Bool, Candidates, Extent, IsNear, IsRowIn, IsRowOf, Layers, List, None, Row, Some, Tents, and-false, and_from, and_parts, any_below-here, any_below-some, ap, arith, beside, bit_of, cases_Bool, cases_lt, common_steps, cond, count_by, covers, crosses, differ, div-add-mod', div-mul-add, eq-eqb, eqb, eqb-true, false, false_from_ne_true, fun_ext, planes_have, has_bit, has_place, if_there, inl, inr, is_barred, is_beside, le-ltb, lt-ltb, ltb, ltb-true, mod-lt, not, or_cases, or_left, or_right, place-column, refl, step, steps, suc, sum_by-append, sym, tree, true, wants_tent, without_taking, without_zeros, zero, ℕ, ◌%◌, ◌&&◌, ◌*◌, ◌++◌, ◌+◌, ◌-◌, ◌/◌, ◌<◌, ◌||◌, ◌∙◌, ◌≡◌, ◌≤◌}
 use Rattle.fields_core.specs.declared.planes.tents.three_rows.ThreeRows.{ThreeRows}
 use Rattle.fields_core.proofs.CellLemmas.{has-append, has-at, same-truth}
 use Rattle.fields_core.proofs.PlaceLists.{num, some-counted}
@@ -86,15 +86,15 @@ module _ {W : Type 0} (bits : W → ℕ) (room : ℕ) (size : Extent) (passes : 
   one-beside = rw count-is (grind (arith, common_steps, cases_Bool (has_bit (bits near.above) x), cases_Bool before, cases_Bool behind, cases_Bool (has_bit (bits near.below) x)))
 
 -- ---- those of the cells that can be a one
-pub row-ones : (p : Layers) (y word : ℕ) → ((x : ℕ) → has_bit word x ≡ bit_of p.rows y 1 x) → ((x : ℕ) → has_bit word x ≡ true → x < p.size.w) → IsRowOf p.size.w (λ c. has p c 1) y word
+pub row-ones : (p : Layers) (y word : ℕ) → ((x : ℕ) → has_bit word x ≡ bit_of p.rows y 1 x) → ((x : ℕ) → has_bit word x ≡ true → x < p.size.w) → IsRowOf p.size.w (λ c. planes_have p c 1) y word
 row-ones p y word is within x = grind (arith, common_steps, cases_lt, lt-ltb, has-at, le-ltb, false_from_ne_true)
 
 -- the words of a row and of those beside it, where there are such rows
 pub near-ones : {W : Type 0} (bits : W → ℕ) (p : Layers) {y : ℕ} (near : ThreeRows W)
-    → (0 < y → IsRowOf p.size.w (λ c. has p c 1) (y - 1) (bits near.above)) → (y ≡ 0 → (x : ℕ) → has_bit (bits near.above) x ≡ false)
-    → IsRowOf p.size.w (λ c. has p c 1) y (bits near.own)
-    → (y + 1 < p.size.h → IsRowOf p.size.w (λ c. has p c 1) (y + 1) (bits near.below)) → (p.size.h ≤ y + 1 → (x : ℕ) → has_bit (bits near.below) x ≡ false)
-    → IsNear bits p.size (λ c. has p c 1) y near
+    → (0 < y → IsRowOf p.size.w (λ c. planes_have p c 1) (y - 1) (bits near.above)) → (y ≡ 0 → (x : ℕ) → has_bit (bits near.above) x ≡ false)
+    → IsRowOf p.size.w (λ c. planes_have p c 1) y (bits near.own)
+    → (y + 1 < p.size.h → IsRowOf p.size.w (λ c. planes_have p c 1) (y + 1) (bits near.below)) → (p.size.h ≤ y + 1 → (x : ℕ) → has_bit (bits near.below) x ≡ false)
+    → IsNear bits p.size (λ c. planes_have p c 1) y near
 near-ones bits p {y} near above top own below bottom = grind (arith, common_steps, cases_lt, lt-ltb, le-ltb, cases_Bool)
 
 -- ---- from row to row

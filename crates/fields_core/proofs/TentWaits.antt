@@ -1,5 +1,5 @@
 -- Tents on planes: what waits, and what a closing asks.
-use Rattle.fields_core.proofs.Common.{AllByRecursion, AreBare, AreIdle, AreLinesOf, ArePlanes, ArePlanesAlive, AreTentsRested, AreTentsWoken, AreTentsWritten, AreVisited, Bool, Candidates, Columns, CountHouse, HasBoard, IsClosed, IsClosedAround, IsClosedBut, IsFieldOf, IsFurther, IsHouse, IsInside, IsLostIn, IsSweep, IsTents, Layers, List, Option, Rows, Some, Squares, Tents, Touched, Trees, TentWaits, [], all_of, all_of_kind, and_parts, ap, append_assoc, arith, back_at, cases_Bool, cases_eq, cells_of, column_of_tents, column_places, common_steps, eqb, eqb-true, exactly, false, false_from_ne_true, free_beside, get_or, get_or-append_right, has, has_bit, houses_below, inl, inr, is_barred, kind_houses, kind_lines, length, length-append, lt-ltb, ltb, ltb-true, map, needs_of, no_count_house, not, one_at_least, one_at_most, or_cases, or_left, or_parts, place-filter, place-in, refl, row_of_tents, row_places, slice_index, solves_tents, square_house, squares_of_row, start_of, suc, sym, tent_cells, tent_counts, tent_houses, tent_rules, tree, tree_house, trees_of_row, true, true≢false, waits_of, zero, ℕ, ◌%◌, ◌&&◌, ◌*◌, ◌++◌, ◌+◌, ◌-◌, ◌/◌, ◌<◌, ◌∙◌, ◌∷◌, ◌≡◌, ◌≤◌, ◌⊎◌}
+use Rattle.fields_core.proofs.Common.{AllByRecursion, AreBare, AreIdle, AreLinesOf, ArePlanes, ArePlanesAlive, AreTentsRested, AreTentsWoken, AreTentsWritten, AreVisited, Bool, Candidates, Columns, CountHouse, HasBoard, IsClosed, IsClosedAround, IsClosedBut, IsFieldOf, IsFurther, IsHouse, IsInside, IsLostIn, IsSweep, IsTents, Layers, List, Option, Rows, Some, Squares, Tents, Touched, Trees, TentWaits, [], all_of, all_of_kind, and_parts, ap, append_assoc, arith, back_at, cases_Bool, cases_eq, plane_cells, column_of_tents, column_places, common_steps, eqb, eqb-true, exactly, false, false_from_ne_true, free_beside, get_or, get_or-append_right, planes_have, has_bit, houses_below, inl, inr, is_barred, kind_houses, kind_lines, length, length-append, lt-ltb, ltb, ltb-true, map, needs_of, no_count_house, not, one_at_least, one_at_most, or_cases, or_left, or_parts, place-filter, place-in, refl, row_of_tents, row_places, slice_index, solves_tents, square_house, squares_of_row, start_of, suc, sym, tent_cells, tent_counts, tent_houses, tent_rules, tree, tree_house, trees_of_row, true, true≢false, waits_of, zero, ℕ, ◌%◌, ◌&&◌, ◌*◌, ◌++◌, ◌+◌, ◌-◌, ◌/◌, ◌<◌, ◌∙◌, ◌∷◌, ◌≡◌, ◌≤◌, ◌⊎◌}
 use Rattle.fields_core.specs.declared.planes.tents.waits.Kind.{Kind}
 use Rattle.fields_core.proofs.HouseOrder.{IsSingle, single-keeps, singles-kept}
 use Rattle.fields_core.proofs.VisitLemmas.{IsBinaryAlive}
@@ -155,9 +155,9 @@ rested-board {bits} {room} {p} {before} {now} {zeros} {ones} {K} {L} lawful low 
     by Squares lt off idle = singles-kept (tent_cells p) (squares_of_row p k) K L (squares-each lawful lt) full still inside (λ c. kept Squares 0 c lt off refl) idle
 
 pub rested-woken : {W : Type 0} {bits : W → ℕ} {room : ℕ} {p : Tents} {before now : TentWaits W} {zeros ones : Touched W} {from to : Layers} {len : ℕ}
-    → ArePlanes room to → IsLostIn bits to.size.w 0 (back_at to len) (has to) zeros → IsLostIn bits to.size.w 1 (back_at to len) (has to) ones
+    → ArePlanes room to → IsLostIn bits to.size.w 0 (back_at to len) (planes_have to) zeros → IsLostIn bits to.size.w 1 (back_at to len) (planes_have to) ones
     → AreTentsWoken bits room before zeros ones now → IsTents p → from.size ≡ p.size → from.len ≡ len → ArePlanesAlive from → ArePlanesAlive to → IsFurther from to
-    → AreTentsRested bits p before (has from) → AreTentsRested bits p now (has to)
+    → AreTentsRested bits p before (planes_have from) → AreTentsRested bits p now (planes_have to)
 rested-woken {room} {p} {zeros} {ones} {from} {to} {len} are lost_zeros lost_ones woken lawful size is alive after further =
     rested-board lawful (rw (← same) are.low) woken
     (record { low = value-in from; some = λ c lt. alive c (rw size lt) }) (record { low = value-in to; some = λ c lt. after c (rw same lt) }) further.inside
@@ -184,17 +184,17 @@ closed-rested bits p none K closed kind k lt off =
 
 -- a closing begins at a cell, which has lost a value
 pub rested-at : {W : Type 0} {bits : W → ℕ} {room : ℕ} {p : Tents} {planes : Layers} {place : ℕ} {none now : TentWaits W} {zeros ones : Touched W}
-    → IsTents p → ArePlanes room planes → planes.size ≡ p.size → IsClosedAround (tent_rules p) (has planes) place
-    → (has planes place 0 ≡ false → AreLinesOf bits zeros (place / p.size.w) (place % p.size.w))
-    → (has planes place 1 ≡ false → AreLinesOf bits ones (place / p.size.w) (place % p.size.w))
-    → AreTentsWoken bits room none zeros ones now → AreTentsRested bits p now (has planes)
+    → IsTents p → ArePlanes room planes → planes.size ≡ p.size → IsClosedAround (tent_rules p) (planes_have planes) place
+    → (planes_have planes place 0 ≡ false → AreLinesOf bits zeros (place / p.size.w) (place % p.size.w))
+    → (planes_have planes place 1 ≡ false → AreLinesOf bits ones (place / p.size.w) (place % p.size.w))
+    → AreTentsWoken bits room none zeros ones now → AreTentsRested bits p now (planes_have planes)
 rested-at {bits} {p} {planes} {place} {none} {now} {zeros} {ones} lawful are size around no_zero no_one woken =
     rested-board lawful (rw (← size) are.low) woken (full-before (tent_counts p) around) (full-around (tent_counts p) around)
     (around-inside (tent_counts p) around) (around-lost (tent_counts p) around bits p.size.w 0 zeros no_zero) (around-lost (tent_counts p) around bits p.size.w 1 ones no_one)
     (closed-rested bits p none around.before around.closed)
 
 pub place-in_planes : (p : Tents) (planes : Layers) {from : Option ℕ} {place : ℕ}
-    → planes.size ≡ p.size → from ≡ Some place → IsClosedBut (tent_rules p) (has planes) from → place < cells_of planes
+    → planes.size ≡ p.size → from ≡ Some place → IsClosedBut (tent_rules p) (planes_have planes) from → place < plane_cells planes
 place-in_planes p planes {from} {place} size is closed = grind (arith, common_steps)
 
 -- ---- the houses of a kind
@@ -250,7 +250,7 @@ field-further field further alive = grind (arith, common_steps, false_from_ne_tr
 
 -- ---- visits of the lines of a kind that wait
 pub kind-first : {W : Type 0} (bits : W → ℕ) (p : Tents) (kind : Kind) (waits : TentWaits W) {left : ℕ → Bool} {from : Layers} → ArePlanesAlive from
-    → AreTentsRested bits p waits (has from) → ((k : ℕ) → left k ≡ (has_bit (waits_of bits waits kind) k && ltb k (kind_lines p kind)))
+    → AreTentsRested bits p waits (planes_have from) → ((k : ℕ) → left k ≡ (has_bit (waits_of bits waits kind) k && ltb k (kind_lines p kind)))
     → AreLinesPassed (kind_houses p kind) (kind_lines p kind) left from from
 kind-first bits p kind waits alive rested is = grind (arith, common_steps, passed-first, ltb-true, and_parts, first-off, lt-ltb)
 

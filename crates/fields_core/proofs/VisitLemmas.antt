@@ -1,5 +1,5 @@
 -- Visits of count houses, one after another; of those of one at most.
-use Rattle.fields_core.proofs.Common.{AllByRecursion, AreHouses, AreMet, ArePlanesAlive, AreVisited, Bool, Candidates, CountHouse, CountPuzzle, IsBroken, IsFurther, IsHouse, IsInside, IsTally, Layers, List, Tally, [], after, after_house, after_visits, and-false, and-true, and_parts, ap, append-nil, append_assoc, arith, cases_Bool, cases_eq, cells_of, common_steps, count_by, count_house_of, count_puzzle, eq-eqb, eqb, false, false_from_ne_true, false≢true, fun_ext, further-more, further-none, get_or-append_right, get_or-append_seam, has, has_place, has_place-at, has_place-here, houses_below, inl, inr, is_empty, is_open, le-ltb, length, length-append, list_any, lt-ltb, ltb, meets_house, ne_eqb, no_count_house, not, or_cases, range_with_len, refl, slice_index, subst, suc, sym, true, true≢false, zero, ℕ, ◌&&◌, ◌*◌, ◌++◌, ◌+◌, ◌-◌, ◌<◌, ◌||◌, ◌∙◌, ◌∷◌, ◌≡◌, ◌≢◌, ◌≤◌, ◌⊎◌}
+use Rattle.fields_core.proofs.Common.{AllByRecursion, AreHouses, AreMet, ArePlanesAlive, AreVisited, Bool, Candidates, CountHouse, CountPuzzle, IsBroken, IsFurther, IsHouse, IsInside, IsTally, Layers, List, Tally, [], after, after_house, after_visits, and-false, and-true, and_parts, ap, append-nil, append_assoc, arith, cases_Bool, cases_eq, plane_cells, common_steps, count_by, count_house_of, count_puzzle, eq-eqb, eqb, false, false_from_ne_true, false≢true, fun_ext, further-more, further-none, get_or-append_right, get_or-append_seam, planes_have, has_place, has_place-at, has_place-here, houses_below, inl, inr, is_empty, is_open, le-ltb, length, length-append, list_any, lt-ltb, ltb, meets_house, ne_eqb, no_count_house, not, or_cases, range_with_len, refl, slice_index, subst, suc, sym, true, true≢false, zero, ℕ, ◌&&◌, ◌*◌, ◌++◌, ◌+◌, ◌-◌, ◌<◌, ◌||◌, ◌∙◌, ◌∷◌, ◌≡◌, ◌≢◌, ◌≤◌, ◌⊎◌}
 use Rattle.engine_core.specs.Closing.{replay}
 use Rattle.fields_core.proofs.HouseLemmas.{below-more}
 use Rattle.fields_core.proofs.CountKept.{after-at, has-value, off-scope}
@@ -51,18 +51,18 @@ unfolding after_visits
 visited-none {p} alive = record { left = λ _. refl; dies = λ e. absurd (true≢false e); alive = alive; further = further-none p }
 
 -- each house has a filling
-pub visited-left : {houses : List CountHouse} {p q : Layers} → has q ≡ after_visits houses (has p) → ArePlanesAlive q → IsFurther p q → AreVisited houses p q true
+pub visited-left : {houses : List CountHouse} {p q : Layers} → planes_have q ≡ after_visits houses (planes_have p) → ArePlanesAlive q → IsFurther p q → AreVisited houses p q true
 visited-left left alive further = record { left = λ _. left; dies = λ e. absurd (true≢false e); alive = alive; further = further }
 
 -- a cell is left without a value
-pub visited-dies : {houses : List CountHouse} {p : Layers} (c : ℕ) → c < cells_of p → ((v : ℕ) → v < 2 → after_visits houses (has p) c v ≡ false)
+pub visited-dies : {houses : List CountHouse} {p : Layers} (c : ℕ) → c < plane_cells p → ((v : ℕ) → v < 2 → after_visits houses (planes_have p) c v ≡ false)
     → ArePlanesAlive p → AreVisited houses p p false
 visited-dies {p} c lt none alive = record { left = λ e. absurd (true≢false (sym e)); dies = λ _. (c, lt, none); alive = alive; further = further-none p }
 
 -- of one house, which has a cell
-pub visited-one : {house : CountHouse} {p q : Layers} {fills : Bool} → IsHouse (cells_of p) house
-    → 0 < length house.places → (fills ≡ true → has q ≡ after_house house (has p))
-    → (fills ≡ false → IsBroken house (has p)) → ArePlanesAlive q → IsFurther p q → AreVisited (house ∷ []) p q fills
+pub visited-one : {house : CountHouse} {p q : Layers} {fills : Bool} → IsHouse (plane_cells p) house
+    → 0 < length house.places → (fills ≡ true → planes_have q ≡ after_house house (planes_have p))
+    → (fills ≡ false → IsBroken house (planes_have p)) → ArePlanesAlive q → IsFurther p q → AreVisited (house ∷ []) p q fills
 unfolding after_visits
 visited-one {house} is some left broken alive further = record {
   left = left;

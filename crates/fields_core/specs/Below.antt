@@ -5,8 +5,8 @@ pub use Rattle.grid_core.specs.Candidates.{Candidates, IsInside, IsWithin, max_c
 unfoldable pub use Rattle.grid_core.specs.Candidates.{all_below, all_of, any_below, count_below, single}
 pub use Rattle.grid_core.specs.Extent.{Extent}
 pub use Rattle.grid_core.specs.Grids.{IsGrid}
-pub use Rattle.grid_core.specs.Planes.{AreLinesOf, IsFurther, Layers, at_line, cells_of, line_len, lines_beside, number_of}
-unfoldable pub use Rattle.grid_core.specs.Planes.{crosses, has}
+pub use Rattle.grid_core.specs.Planes.{AreLinesOf, IsFurther, Layers, at_line, plane_cells, line_len, lines_beside, number_of}
+unfoldable pub use Rattle.grid_core.specs.Planes.{crosses, planes_have}
 pub use Rattle.grid_core.specs.Regions.{beside, column_places, row_places}
 pub use Rattle.grid_core.specs.Words.{has_bit}
 pub use Rattle.grid_core.specs.declared.planes.line.Line.{Line}

@@ -7,7 +7,7 @@ unfoldable pub use Rattle.grid_core.specs.Candidates.{any_below, count_below}
 pub use Rattle.grid_core.specs.Extent.{Extent, IsExtent}
 pub use Rattle.grid_core.specs.Grids.{IsGrid}
 pub use Rattle.grid_core.specs.Planes.{IsFurther, Layers, line_len, lines_beside, number_of}
-unfoldable pub use Rattle.grid_core.specs.Planes.{has}
+unfoldable pub use Rattle.grid_core.specs.Planes.{planes_have}
 pub use Rattle.grid_core.specs.Regions.{beside, column_places, row_places}
 pub use Rattle.grid_core.specs.Words.{has_bit}
 pub use Rattle.gameid_core.specs.Puzzles.{IsLight, IsTents, Light, Tents}

@@ -1,6 +1,6 @@
 -- The runs of one line, visited at once. No public contract uses these words.
 use Rattle.std.specs.Prelude.{◌≡◌, ℕ, ◌+◌, ◌*◌, ◌/◌, ◌%◌, ◌<◌, Bool, true, false, ◌&&◌, nat_lt, List, map, slice_index}
-use Rattle.fields_core.specs.Below.{AllByRecursion, Extent, Layers, Light, Line, any_below, at_line, crosses, has, has_bit, has_place, line_len, list_any}
+use Rattle.fields_core.specs.Below.{AllByRecursion, Extent, Layers, Light, Line, any_below, at_line, crosses, planes_have, has_bit, has_place, line_len, list_any}
 use Rattle.fields_core.specs.CountHouse.{CountHouse, IsHouse, houses_below}
 use Rattle.fields_core.specs.LightHouses.{column_house}
 use Rattle.fields_core.specs.Visits.{AreVisited}
@@ -56,7 +56,7 @@ pub record AreRunsOf (size : Extent) (line : Line) (n : ℕ) (cell : ℕ → ℕ
   pub from_cell : (bits k : ℕ) → k < n → has_bit bits k ≡ true
       → crosses line bits (cell k / size.w) (cell k % size.w) ≡ true
   pub values : (p : Layers) (v k : ℕ) → p.size ≡ size → v < 2 → k < n
-      → at_line p line v k ≡ has p (cell k) v
+      → at_line p line v k ≡ planes_have p (cell k) v
   pub each : AllByRecursion (IsRunOf (size.w * size.h) n cell joined) houses
   pub some : (j k : ℕ) → j < n → k < n → joined j k ≡ true
       → list_any (λ house. has_place house.places (cell j) && has_place house.places (cell k))

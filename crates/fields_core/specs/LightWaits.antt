@@ -1,6 +1,6 @@
 -- Which houses of Light Up wait on planes. No public contract uses these words.
 use Rattle.std.specs.Prelude.{◌≡◌, ◌≢◌, ℕ, ◌+◌, ◌*◌, ◌/◌, ◌%◌, ◌<◌, ◌≤◌, Bool, true, false, ◌&&◌, ◌||◌, ◌⊎◌, nat_lt, List, ◌++◌, suc, zero}
-use Rattle.fields_core.specs.Below.{AreLinesOf, Candidates, Extent, IsFurther, IsLight, Layers, Light, Touched, has, has_bit, has_place}
+use Rattle.fields_core.specs.Below.{AreLinesOf, Candidates, Extent, IsFurther, IsLight, Layers, Light, Touched, planes_have, has_bit, has_place}
 use Rattle.fields_core.specs.CountHouse.{CountHouse, houses_below}
 use Rattle.fields_core.specs.Light.{clear, light_cells, joined_in_column, white}
 use Rattle.fields_core.specs.LightHouses.{column_house, light_house_at, houses_in_grid, houses_in_row, lit_house, number_house, row_house, seen_from}
@@ -125,8 +125,8 @@ abbrev pub AreLightsWokenSince : {W : Type 0} → (W → ℕ) → ℕ → ℕ �
     → LightWaits W → Type 0
 AreLightsWokenSince bits room len planes before now = (p : Light) (from : Layers)
     → ArePlanesOf room p planes → ArePlanesOf room p from → from.len ≡ len
-    → IsFurther from planes → AreLightsRested bits p before (has from)
-    → AreLightsRested bits p now (has planes)
+    → IsFurther from planes → AreLightsRested bits p before (planes_have from)
+    → AreLightsRested bits p now (planes_have planes)
 
 -- planes of a puzzle, with its words; what does not wait is idle
 pub record AreLightsReady {W : Type 0} (bits : W → ℕ) (room : ℕ) (p : Light) (planes : Layers)
@@ -134,7 +134,7 @@ pub record AreLightsReady {W : Type 0} (bits : W → ℕ) (room : ℕ) (p : Ligh
     : Type 0 where
   pub planes_of : ArePlanesOf room p planes
   pub tables : AreTables bits p notes.tables
-  pub rested : AreLightsRested bits p notes.waits (has planes)
+  pub rested : AreLightsRested bits p notes.waits (planes_have planes)
 
 -- ---- white cells
 -- those of the white cells of a row are idle that are none of these

@@ -1,6 +1,6 @@
 -- Count houses as parts of lines of planes.
 use Rattle.std.specs.Prelude.{◌≡◌, ℕ, ◌-◌, ◌*◌, ◌/◌, ◌%◌, ◌<◌, Bool, true, false, not, ◌&&◌, ◌==◌, ◌⊎◌, List, None, Option, Some, [], ◌∷◌, length, slice_index_or}
-use Rattle.fields_core.specs.Below.{Candidates, Extent, Layers, Line, Row, any_below, cells_of, count_below, crosses, has, has_place, lines_beside, number_of}
+use Rattle.fields_core.specs.Below.{Candidates, Extent, Layers, Line, Row, any_below, plane_cells, count_below, crosses, planes_have, has_place, lines_beside, number_of}
 use Rattle.fields_core.specs.Count.{is_open}
 use Rattle.fields_core.specs.CountHouse.{CountHouse, IsHouse, after_house}
 use Rattle.fields_core.specs.declared.planes.visit.Part.{Part}
@@ -43,9 +43,9 @@ pub record ArePieces (size : Extent) (pieces : List Piece) : Type 0 where
 -- of the cells of the first n pieces so many can have 1, and so many of these are undecided
 pub record IsCount (p : Layers) (pieces : List Piece) (n may undecided : ℕ) : Type 0 where
   pub may_is : may
-      ≡ count_below (λ c. lies_in_first p.size.w pieces n c && has p c 1) (cells_of p)
+      ≡ count_below (λ c. lies_in_first p.size.w pieces n c && planes_have p c 1) (plane_cells p)
   pub undecided_is : undecided
-      ≡ count_below (λ c. lies_in_first p.size.w pieces n c && is_open (has p) c) (cells_of p)
+      ≡ count_below (λ c. lies_in_first p.size.w pieces n c && is_open (planes_have p) c) (plane_cells p)
 
 abbrev pub ArePartsCounted : Layers → List Piece → ℕ → ℕ → Type 0
 ArePartsCounted p pieces may undecided = IsCount p pieces (length pieces) may undecided
@@ -60,7 +60,7 @@ pub record IsHouseOfPieces (size : Extent) (pieces : List Piece) (least most : �
 
 -- each cell has a value
 abbrev pub ArePlanesAlive : Layers → Type 0
-ArePlanesAlive p = (c : ℕ) → c < cells_of p → (has p c 0 ≡ true) ⊎ (has p c 1 ≡ true)
+ArePlanesAlive p = (c : ℕ) → c < plane_cells p → (planes_have p c 0 ≡ true) ⊎ (planes_have p c 1 ≡ true)
 
 -- a visit leaves no value in the house's cells
 abbrev pub IsBroken : CountHouse → Candidates → Type 0
@@ -70,11 +70,11 @@ IsBroken house K = (c v : ℕ) → has_place house.places c ≡ true → v < 2
 -- of any house of these cells and bounds: a visit leaves that board, or no value in its cells
 abbrev pub IsHouseLeft : List Piece → ℕ → ℕ → Layers → Layers → Type 0
 IsHouseLeft pieces least most from to = (house : CountHouse)
-    → IsHouseOfPieces from.size pieces least most house → has to ≡ after_house house (has from)
+    → IsHouseOfPieces from.size pieces least most house → planes_have to ≡ after_house house (planes_have from)
 
 abbrev pub IsHouseBroken : List Piece → ℕ → ℕ → Layers → Type 0
 IsHouseBroken pieces least most from = (house : CountHouse)
-    → IsHouseOfPieces from.size pieces least most house → IsBroken house (has from)
+    → IsHouseOfPieces from.size pieces least most house → IsBroken house (planes_have from)
 
 -- the board without the value in the cells of the first n pieces that have the other value
 unfoldable pub without_value : ℕ → List Piece → ℕ → ℕ → Candidates → Candidates
@@ -84,4 +84,4 @@ without_value w pieces n value K c v =
 -- it was taken from the cells of all of the pieces that have the other value
 abbrev pub IsStruck : List Piece → ℕ → Layers → Layers → Type 0
 IsStruck pieces value from to =
-    has to ≡ without_value from.size.w pieces (length pieces) value (has from)
+    planes_have to ≡ without_value from.size.w pieces (length pieces) value (planes_have from)

@@ -1,5 +1,5 @@
 -- Puzzles of count houses that are closed on planes.
-use Rattle.fields_core.specs.Below.{Extent, FitsIn, Layers, Needs, RuleSystem, has, needs_of}
+use Rattle.fields_core.specs.Below.{Extent, FitsIn, Layers, Needs, RuleSystem, planes_have, needs_of}
 use Rattle.engine_core.specs.Needs.{needs_in}
 use Rattle.engine_core.specs.PlaneNotes.{IsSuited}
 use Rattle.engine_core.specs.Position.{IsTaken}
@@ -14,4 +14,4 @@ AreShortEnough all_short rules size = (had : Counted) → FitsIn (needs_of rules
 
 -- a closing by the rules of what is counted, from planes to planes
 abbrev pub IsClosedByCounts : CountPuzzle → Layers → Layers → Closing → Type 0
-IsClosedByCounts p from to closing = IsTaken (rules_of p) (has from) (has to) closing
+IsClosedByCounts p from to closing = IsTaken (rules_of p) (planes_have from) (planes_have to) closing

@@ -1,6 +1,6 @@
 -- The trees and the squares of a row of Tents.
 use Rattle.std.specs.Prelude.{Bool, List, [], count_by, false, nat_lt, not, true, ℕ, ◌&&◌, ◌*◌, ◌+◌, ◌-◌, ◌<◌, ◌∷◌, ◌≡◌, ◌≤◌}
-use Rattle.fields_core.specs.Below.{Candidates, Extent, Layers, Row, Tents, any_below, beside, has, has_bit, has_place, list_any}
+use Rattle.fields_core.specs.Below.{Candidates, Extent, Layers, Row, Tents, any_below, beside, planes_have, has_bit, has_place, list_any}
 use Rattle.fields_core.specs.CountHouse.{CountHouse, houses_below}
 use Rattle.fields_core.specs.LineWords.{IsRowIn, IsRowOf}
 use Rattle.fields_core.specs.TentHouses.{square_house, tree_house}
@@ -48,8 +48,8 @@ abbrev pub AreTakenBeside : {W : Type 0} → (W → ℕ) → ThreeRows W → W �
 AreTakenBeside bits near places y from to = (passes : ℕ → Bool)
     → IsNear bits from.size passes y near
     → ((x : ℕ) → has_bit (bits places) x ≡ true → x < from.size.w)
-    → has to ≡ without_zeros (λ c. passes c
-    && is_beside from.size y (has_bit (bits places)) from.size.w c) (has from)
+    → planes_have to ≡ without_zeros (λ c. passes c
+    && is_beside from.size y (has_bit (bits places)) from.size.w c) (planes_have from)
 
 -- The squares of two rows of Tents.
 

@@ -1,6 +1,6 @@
 -- Which houses of Tents wait on planes, and what is kept beside these. No public contract uses these words.
 use Rattle.std.specs.Prelude.{Bool, List, [], false, map, nat_lt, true, ℕ, ◌&&◌, ◌++◌, ◌+◌, ◌<◌, ◌||◌, ◌≡◌, ◌≤◌}
-use Rattle.fields_core.specs.Below.{Candidates, Extent, IsTents, Layers, Tents, Touched, has, has_bit}
+use Rattle.fields_core.specs.Below.{Candidates, Extent, IsTents, Layers, Tents, Touched, planes_have, has_bit}
 use Rattle.fields_core.specs.CountHouse.{CountHouse, houses_below}
 use Rattle.fields_core.specs.Parts.{ArePlanesAlive}
 use Rattle.fields_core.specs.TentHouses.{column_of_tents, row_of_tents}
@@ -94,7 +94,7 @@ pub record IsFieldOf (room : ℕ) (p : Tents) (planes : Layers) (words : List �
   pub low : p.size.h ≤ room
   pub size : planes.size ≡ p.size
   pub trees : AreRowsOf p.size (wants_tent p) words
-  pub bare : AreBare p (has planes)
+  pub bare : AreBare p (planes_have planes)
   pub alive : ArePlanesAlive planes
 
 -- a visit of the houses of the trees of a row, of any puzzle with these planes and words
@@ -110,4 +110,4 @@ pub record AreTentsWritten {W : Type 0} (bits : W → ℕ) (p : Tents) (notes : 
 -- planes of a puzzle, with its trees; what does not wait is idle
 pub record AreTentsReady {W : Type 0} (bits : W → ℕ) (room : ℕ) (p : Tents) (planes : Layers) (notes : TentNotes W) : Type 0 where
   pub field : IsFieldOf room p planes (map bits notes.trees.items)
-  pub rested : AreTentsRested bits p notes.waits (has planes)
+  pub rested : AreTentsRested bits p notes.waits (planes_have planes)

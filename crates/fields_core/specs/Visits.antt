@@ -1,6 +1,6 @@
 -- Visits of count houses on planes, one after another.
 use Rattle.std.specs.Prelude.{◌≡◌, ℕ, ◌<◌, Bool, true, false, not, ◌&&◌, ◌==◌, List, [], ◌∷◌}
-use Rattle.fields_core.specs.Below.{Candidates, IsFurther, Layers, cells_of, has}
+use Rattle.fields_core.specs.Below.{Candidates, IsFurther, Layers, plane_cells, planes_have}
 use Rattle.fields_core.specs.CountHouse.{CountHouse, after_house}
 use Rattle.fields_core.specs.Parts.{ArePlanesAlive}
 
@@ -12,9 +12,9 @@ after_visits (house ∷ houses) K = after_visits houses (after_house house K)
 -- visits of the houses took the planes from the first to the second; or these visits leave a cell without a value
 pub record AreVisited (houses : List CountHouse) (from to : Layers) (fills : Bool)
     : Type 0 where
-  pub left : fills ≡ true → has to ≡ after_visits houses (has from)
-  pub dies : fills ≡ false → (c : ℕ) × (c < cells_of from)
-      × ((v : ℕ) → v < 2 → after_visits houses (has from) c v ≡ false)
+  pub left : fills ≡ true → planes_have to ≡ after_visits houses (planes_have from)
+  pub dies : fills ≡ false → (c : ℕ) × (c < plane_cells from)
+      × ((v : ℕ) → v < 2 → after_visits houses (planes_have from) c v ≡ false)
   pub alive : ArePlanesAlive to
   pub further : IsFurther from to
 

@@ -42,10 +42,10 @@ unfoldable pub use Rattle.grid_core.specs.Candidates.{pick, single, sum_below, t
 pub use Rattle.grid_core.specs.Extent.{Extent, IsExtent, max_side}
 pub use Rattle.grid_core.specs.Grids.{IsGrid}
 pub use Rattle.grid_core.specs.Pairings.{IsShortSet}
-pub use Rattle.grid_core.specs.Planes.{AreLinesFilled, ArePlanes, AreTakings, AreTurned, AreWords, HasLine, HasLost, HasRoomFor, IsFresh, IsFurther, IsLineIn}
-pub use Rattle.grid_core.specs.Planes.{IsTakingIn, IsThere, Layers, Taking, at_line, back_at, cells_of, layers_of, line_len, no_taking, taking_at, with_first}
+pub use Rattle.grid_core.specs.Planes.{AreLinesFilled, ArePlanes, AreTakings, AreTurned, AreWords, HasLine, HasLost, HasRoomForTaking, IsFresh, IsFurther, IsLineIn}
+pub use Rattle.grid_core.specs.Planes.{IsTakingIn, IsThere, Layers, Taking, at_line, back_at, plane_cells, layers_of, line_len, no_taking, taking_at, with_first}
 pub use Rattle.grid_core.specs.Planes.{taking_of}
-unfoldable pub use Rattle.grid_core.specs.Planes.{bit_of, covers, crosses, has, turned_by, without_taking}
+unfoldable pub use Rattle.grid_core.specs.Planes.{bit_of, covers, crosses, planes_have, turned_by, without_taking}
 pub use Rattle.grid_core.specs.Regions.{beside, column_places, down, left, right, row_places, up}
 unfoldable pub use Rattle.grid_core.specs.Regions.{step, steps}
 pub use Rattle.grid_core.specs.Words.{IsLeast, has_bit}

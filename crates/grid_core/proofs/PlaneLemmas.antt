@@ -1,5 +1,5 @@
 -- Planes: their words, the board that they are, and the lines of the cells that lost values.
-use Rattle.grid_core.proofs.Common.{ArePlanes, AreTurned, AreWords, Bool, Candidates, Column, Extent, HasLine, HasLost, HasRoomFor, IsFurther, IsInside, IsLineIn, IsTakingIn, IsThere, IsWithin, Layers, List, Row, Taking, and_from, and_parts, any_below, ap, arith, at_line, back_at, bit_of, cases_Bool, cases_eq, cases_lt, cells_of, common_steps, covers, crosses, differ, div-add-mod', div-mul-add, eq-eqb, eqb, eqb-true, false, false_from_ne_true, fun_ext, has, has_bit, inl, inr, le-ltb, length, length-set, line_len, lt-ltb, ltb, ltb-true, mod-mul-add, mul-le-mul_right, ne_eqb, no_taking, not, refl, set, sym, taking_at, total, true, true≢false, turned_by, without_taking, ℕ, ◌%◌, ◌&&◌, ◌*◌, ◌+◌, ◌-◌, ◌/◌, ◌<◌, ◌==◌, ◌∙◌, ◌≡◌, ◌≤◌}
+use Rattle.grid_core.proofs.Common.{ArePlanes, AreTurned, AreWords, Bool, Candidates, Column, Extent, HasLine, HasLost, HasRoomForTaking, IsFurther, IsInside, IsLineIn, IsTakingIn, IsThere, IsWithin, Layers, List, Row, Taking, and_from, and_parts, any_below, ap, arith, at_line, back_at, bit_of, cases_Bool, cases_eq, cases_lt, plane_cells, common_steps, covers, crosses, differ, div-add-mod', div-mul-add, eq-eqb, eqb, eqb-true, false, false_from_ne_true, fun_ext, planes_have, has_bit, inl, inr, le-ltb, length, length-set, line_len, lt-ltb, ltb, ltb-true, mod-mul-add, mul-le-mul_right, ne_eqb, no_taking, not, refl, set, sym, taking_at, total, true, true≢false, turned_by, without_taking, ℕ, ◌%◌, ◌&&◌, ◌*◌, ◌+◌, ◌-◌, ◌/◌, ◌<◌, ◌==◌, ◌∙◌, ◌≡◌, ◌≤◌}
 use Rattle.grid_core.proofs.BoardLemmas.{any_below-none, any_below-some, total-lt}
 use Rattle.grid_core.specs.declared.planes.line.Line.{Line}
 use Rattle.grid_core.proofs.TakingLemmas.{put_back-noted, put_back-undone, takings-noted, takings-room, takings-undone}
@@ -34,8 +34,8 @@ words-turned size rows columns rows' columns' t are turned within = record {
 
 -- so is the board
 pub has-turned : (p p' : Layers) (t : Taking) → p'.size ≡ p.size → t.value < 2
-    → AreTurned p.rows p.columns p'.rows p'.columns t → has p' ≡ turned_by p.size.w (has p) t
-unfolding has turned_by covers differ
+    → AreTurned p.rows p.columns p'.rows p'.columns t → planes_have p' ≡ turned_by p.size.w (planes_have p) t
+unfolding planes_have turned_by covers differ
 has-turned p p' t e low turned = rw e (fun_ext λ c. fun_ext λ v.
     grind (arith, common_steps, cases_lt v 2, lt-ltb, le-ltb, ne_eqb, cases_Bool, turned.by_rows (c / p.size.w) v (c % p.size.w)))
 
@@ -55,7 +55,7 @@ room_of_line room size rows columns v (Row k) bits narrow low tall wide lt withi
 room_of_line room size rows columns v (Column k) bits narrow low tall wide lt within =
     (omega (arith, within.0), omega (arith, within.0), λ y on. let h = within.1 y on in (omega arith, omega arith))
 
-pub room_for : (room : ℕ) (p : Layers) (t : Taking) → ArePlanes room p → IsTakingIn p.size t → HasRoomFor room p.rows p.columns t
+pub room_for : (room : ℕ) (p : Layers) (t : Taking) → ArePlanes room p → IsTakingIn p.size t → HasRoomForTaking room p.rows p.columns t
 room_for room p t are within =
     (within.value_in, room_of_line room p.size (length p.rows) (length p.columns) t.value t.line t.bits are.narrow are.low are.tall are.wide within.value_in within.line_in)
 
@@ -66,8 +66,8 @@ taking_in room p t are there = record {
 }
 
 -- what is there is taken by turning it over, and put back so
-taken_is : (p : Layers) (t : Taking) → IsThere p t → turned_by p.size.w (has p) t ≡ without_taking p.size.w (has p) t
-unfolding turned_by without_taking covers has differ
+taken_is : (p : Layers) (t : Taking) → IsThere p t → turned_by p.size.w (planes_have p) t ≡ without_taking p.size.w (planes_have p) t
+unfolding turned_by without_taking covers planes_have differ
 taken_is p t there =
     fun_ext λ c. fun_ext λ v.
     grind (arith, common_steps, cases_Bool, cases_eq v t.value, eqb-true, lt-ltb, there.value_in, there.there (c / p.size.w) (c % p.size.w))
@@ -88,8 +88,8 @@ unfolding without_taking
 without-inside w K t = λ c v on. (and_parts (K c v) (not (covers w t c v)) on).0
 
 -- the cell that some taking is from loses it
-taken-lost : (room : ℕ) (p : Layers) (t : Taking) → ArePlanes room p → IsThere p t → HasLost (has p) (without_taking p.size.w (has p) t)
-unfolding without_taking covers has
+taken-lost : (room : ℕ) (p : Layers) (t : Taking) → ArePlanes room p → IsThere p t → HasLost (planes_have p) (without_taking p.size.w (planes_have p) t)
+unfolding without_taking covers planes_have
 taken-lost room p t are there =
     let y = there.some.0 in
     let x = there.some.1 in
@@ -101,17 +101,17 @@ taken-lost room p t are there =
     (y * p.size.w + x, t.value, rw (row, column, low, on) refl, rw (row, column, there.some.2, eq-eqb t.value t.value refl, low, on) refl)
 
 -- the board has no other cells and values than the grid's
-pub has-within : (p : Layers) (room : ℕ) → ArePlanes room p → IsWithin (cells_of p) 2 (has p)
-unfolding has
+pub has-within : (p : Layers) (room : ℕ) → ArePlanes room p → IsWithin (plane_cells p) 2 (planes_have p)
+unfolding planes_have
 has-within p room are = grind (arith, and_parts, ltb, ltb-true, div-add-mod', place-in, are.words.within)
 
 taken-fewer : (room : ℕ) (p : Layers) (t : Taking) → ArePlanes room p → IsThere p t
-    → total (p.size.w * p.size.h) 2 (without_taking p.size.w (has p) t) < total
-    (p.size.w * p.size.h) 2 (has p)
+    → total (p.size.w * p.size.h) 2 (without_taking p.size.w (planes_have p) t) < total
+    (p.size.w * p.size.h) 2 (planes_have p)
 taken-fewer room p t are there =
     let w = taken-lost room p t are there in
     let within = has-within p room are w.0 w.1 w.2 in
-    total-lt (p.size.w * p.size.h) 2 (without_taking p.size.w (has p) t) (has p) (without-inside p.size.w (has p) t) w.0 w.1 within.0 within.1 w.3 w.2
+    total-lt (p.size.w * p.size.h) 2 (without_taking p.size.w (planes_have p) t) (planes_have p) (without-inside p.size.w (planes_have p) t) w.0 w.1 within.0 within.1 w.3 w.2
 
 none_of : (bits room n : ℕ) → n ≤ room → any_below (has_bit bits) room ≡ false → ((k : ℕ) → has_bit bits k ≡ true → k < n) → (k : ℕ) → has_bit bits k ≡ false
 none_of bits room n fits none within k =
@@ -121,11 +121,11 @@ none_of bits room n fits none within k =
 -- planes from which something was taken
 pub record ArePlanesTaken (room : ℕ) (p p' : Layers) (t : Taking) : Type 0 where
   pub are : ArePlanes room p'
-  pub left : has p' ≡ without_taking p.size.w (has p) t
+  pub left : planes_have p' ≡ without_taking p.size.w (planes_have p) t
   pub further : IsFurther p p'
 
 pub room_to_note : (room : ℕ) (p : Layers) (t : Taking) → ArePlanes room p → IsThere p t → p.len < length p.takings
-room_to_note room p t are there = takings-room p.size (has p) (without_taking p.size.w (has p) t) p.takings p.len are.takings (taken-fewer room p t are there)
+room_to_note room p t are there = takings-room p.size (planes_have p) (without_taking p.size.w (planes_have p) t) p.takings p.len are.takings (taken-fewer room p t are there)
 
 pub taken : (room : ℕ) (p : Layers) (t : Taking) (rows columns : List ℕ) → ArePlanes room p
     → IsThere p t → AreTurned p.rows p.columns rows columns t → length rows ≡ length p.rows
@@ -135,11 +135,11 @@ taken room p t rows columns are there turned tall wide =
     let p' : Layers = record { size = p.size; rows = rows; columns = columns; takings = set p.takings p.len t; len = p.len + 1 } in
     let within = taking_in room p t are there in
     let turn = has-turned p p' t refl there.value_in turned in
-    let left : has p' ≡ without_taking p.size.w (has p) t = turn ∙ taken_is p t there in
+    let left : planes_have p' ≡ without_taking p.size.w (planes_have p) t = turn ∙ taken_is p t there in
     let fewer = rw (← left) at (taken-fewer room p t are there) in
-    let back : turned_by p.size.w (has p') t ≡ has p = ap (λ (K : Candidates). turned_by p.size.w K t) turn ∙ turned_twice p.size.w (has p) t in
-    let lt = takings-room p.size (has p) (has p') p.takings p.len are.takings fewer in
-    let inside : IsInside (has p') (has p) = rw left (without-inside p.size.w (has p) t) in
+    let back : turned_by p.size.w (planes_have p') t ≡ planes_have p = ap (λ (K : Candidates). turned_by p.size.w K t) turn ∙ turned_twice p.size.w (planes_have p) t in
+    let lt = takings-room p.size (planes_have p) (planes_have p') p.takings p.len are.takings fewer in
+    let inside : IsInside (planes_have p') (planes_have p) = rw left (without-inside p.size.w (planes_have p) t) in
     record {
       are = record {
         lawful = are.lawful;
@@ -148,7 +148,7 @@ taken room p t rows columns are there turned tall wide =
         tall = tall ∙ are.tall;
         wide = wide ∙ are.wide;
         words = words-turned p.size p.rows p.columns rows columns t are.words turned within.line_in;
-        takings = takings-noted p.size (has p) (has p') p.takings p.len t are.takings fewer inside within back;
+        takings = takings-noted p.size (planes_have p) (planes_have p') p.takings p.len t are.takings fewer inside within back;
       };
       left = left;
       further = record {
@@ -158,7 +158,7 @@ taken room p t rows columns are there turned tall wide =
         grows = omega arith;
         same = λ e. absurd (omega arith);
         lost = λ _. rw left (taken-lost room p t are there);
-        back = λ m le. put_back-noted (turned_by p.size.w) no_taking (has p) (has p') p.takings m p.len t le lt back;
+        back = λ m le. put_back-noted (turned_by p.size.w) no_taking (planes_have p) (planes_have p') p.takings m p.len t le lt back;
       };
     }
 
@@ -184,10 +184,10 @@ further-more p q r first next = record {
 
 -- what is taken of the cells that have it is what is taken of all
 pub without-there : (p : Layers) (line : Line) (v bits there : ℕ) → ((k : ℕ) → has_bit there k ≡ (at_line p line v k && has_bit bits k))
-    → without_taking p.size.w (has p)
-    (record { line = line; value = v; bits = there }) ≡ without_taking p.size.w (has p)
+    → without_taking p.size.w (planes_have p)
+    (record { line = line; value = v; bits = there }) ≡ without_taking p.size.w (planes_have p)
     (record { line = line; value = v; bits = bits })
-unfolding without_taking covers crosses has
+unfolding without_taking covers crosses planes_have
 without-there p (Row n) v bits there is =
     fun_ext λ c. fun_ext λ u.
     grind (arith, common_steps, cases_Bool, cases_eq u v, cases_eq (c / p.size.w) n, eq-eqb, ne_eqb, is (c % p.size.w))
@@ -198,7 +198,7 @@ without-there p (Column n) v bits there is =
 pub without-none : (p : Layers) (line : Line) (v bits room : ℕ) → line_len p.size line ≤ room
     → any_below (has_bit bits) room ≡ false
     → ((k : ℕ) → has_bit bits k ≡ true → k < line_len p.size line)
-    → has p ≡ without_taking p.size.w (has p) (record { line = line; value = v; bits = bits })
+    → planes_have p ≡ without_taking p.size.w (planes_have p) (record { line = line; value = v; bits = bits })
 unfolding without_taking covers crosses
 without-none p (Row n) v bits room fits none within =
     fun_ext λ c. fun_ext λ u. rw (none_of bits room p.size.w fits none within (c % p.size.w))
@@ -249,7 +249,7 @@ given_back room p rows columns n are e turned tall wide =
     let n_is : n ≡ p.len - 1 = omega arith in
     let t = taking_at p.takings n in
     let within = are.takings.takings_in n (omega arith) in
-    let turn : has p' ≡ turned_by p.size.w (has p) (taking_at p.takings (p.len - 1)) = rw (← n_is) (has-turned p p' t refl within.value_in turned) in
+    let turn : planes_have p' ≡ turned_by p.size.w (planes_have p) (taking_at p.takings (p.len - 1)) = rw (← n_is) (has-turned p p' t refl within.value_in turned) in
     record {
       are = record {
         lawful = are.lawful;
@@ -258,9 +258,9 @@ given_back room p rows columns n are e turned tall wide =
         tall = tall ∙ are.tall;
         wide = wide ∙ are.wide;
         words = words-turned p.size p.rows p.columns rows columns t are.words turned within.line_in;
-        takings = rw (turn, n_is) (takings-undone p.size (has p) p.takings p.len (omega arith) are.takings);
+        takings = rw (turn, n_is) (takings-undone p.size (planes_have p) p.takings p.len (omega arith) are.takings);
       };
-      back = λ m lt. rw (turn, n_is) (put_back-undone (turned_by p.size.w) no_taking (has p) p.takings m p.len lt);
+      back = λ m lt. rw (turn, n_is) (put_back-undone (turned_by p.size.w) no_taking (planes_have p) p.takings m p.len lt);
     }
 
 -- The lines of the cells that lost values.

@@ -1,5 +1,5 @@
 -- Planes step by step, and their rows as cells by place.
-use Rattle.grid_core.proofs.Common.{AreLinesFilled, ArePlanes, Bool, Candidates, Extent, HasRoomFor, IsExtent, IsFresh, IsLeast, IsTakingIn, IsThere, Layers, List, None, Option, Row, Some, Taking, all_of, and_comm, and_parts, any_below, ap, arith, better, bit_of, bool_byte, cases_Bool, cases_eq, cases_lt, cells_of, common_steps, cond, count_below, covers, crosses, div-add-mod', div-lt_iff_lt-mul, div-mul-add, eq-eqb, eqb, eqb-true, false, false_from_ne_true, fun_ext, get_or, get_or-map, get_or-replicate, get_or-set_other, get_or-set_same, get_or_past, grid_of, has, has_bit, inl, inr, is_full, layers_of, le-ltb, length, length-map, length-replicate, length-set, lt-ltb, ltb, ltb-true, map, map-set, mod-lt, ne_eqb, no_taking, not, only, pick, refl, replicate, set, slice_index, suc, sym, taking_at, taking_of, total, true, without_taking, zero, ℕ, ◌%◌, ◌&&◌, ◌*◌, ◌+◌, ◌-◌, ◌/◌, ◌<◌, ◌↔◌, ◌∙◌, ◌≡◌, ◌≤◌}
+use Rattle.grid_core.proofs.Common.{AreLinesFilled, ArePlanes, Bool, Candidates, Extent, HasRoomForTaking, IsExtent, IsFresh, IsLeast, IsTakingIn, IsThere, Layers, List, None, Option, Row, Some, Taking, all_of, and_comm, and_parts, any_below, ap, arith, better, bit_of, bool_byte, cases_Bool, cases_eq, cases_lt, plane_cells, common_steps, cond, count_below, covers, crosses, div-add-mod', div-lt_iff_lt-mul, div-mul-add, eq-eqb, eqb, eqb-true, false, false_from_ne_true, fun_ext, get_or, get_or-map, get_or-replicate, get_or-set_other, get_or-set_same, get_or_past, grid_of, planes_have, has_bit, inl, inr, is_full, layers_of, le-ltb, length, length-map, length-replicate, length-set, lt-ltb, ltb, ltb-true, map, map-set, mod-lt, ne_eqb, no_taking, not, only, pick, refl, replicate, set, slice_index, suc, sym, taking_at, taking_of, total, true, without_taking, zero, ℕ, ◌%◌, ◌&&◌, ◌*◌, ◌+◌, ◌-◌, ◌/◌, ◌<◌, ◌↔◌, ◌∙◌, ◌≡◌, ◌≤◌}
 use Rattle.grid_core.proofs.BoardLemmas.{any_below-none, count_below-bound}
 use Rattle.grid_core.proofs.WordLemmas.{zero-bits}
 use Rattle.grid_core.specs.declared.planes.line.Change.{Change}
@@ -24,8 +24,8 @@ taking_read bits changes k change lt read = get_or-map (taking_of bits) changes 
 
 full-has : (p : Layers) (size : Extent) → p.size ≡ size → 0 < size.w
     → ((y v x : ℕ) → v < 2 → bit_of p.rows y v x ≡ (ltb y size.h && ltb x size.w))
-    → has p ≡ all_of (size.w * size.h) 2
-unfolding has all_of
+    → planes_have p ≡ all_of (size.w * size.h) 2
+unfolding planes_have all_of
 full-has p size e pos is = fun_ext λ c. fun_ext λ v. elim (cases_lt v 2) [
   | inl low ↦ rw (e, lt-ltb v 2 low, is (c / size.w) v (c % size.w) low, lt-ltb (c % size.w) size.w (mod-lt c pos)) (row-in c)
   | inr high ↦ rw (le-ltb v 2 high) (and-off c v)
@@ -110,14 +110,14 @@ begun bits room size row column changes lawful narrow low row_is column_is long 
               let w = and_parts _ _ (sym (by_row y v x lt) ∙ on) in (ltb-true y size.h w.0, ltb-true x size.w w.1);
           agree = λ y x v lt. by_row y v x lt ∙ and_comm (ltb y size.h) (ltb x size.w) ∙ sym (by_column x v y lt);
         };
-        takings = takings-none size (has p) p.takings (omega (arith, length-map changes (taking_of bits), long)) (total-bound (size.w * size.h) 2 (has p));
+        takings = takings-none size (planes_have p) p.takings (omega (arith, length-map changes (taking_of bits), long)) (total-bound (size.w * size.h) 2 (planes_have p));
       };
       fresh = record { same_size = refl; holds = full-has p size refl lawful.w_low by_row; none = refl };
     }
 
 -- ---- a cell
-pub has_read : (p : Layers) (c v : ℕ) → v < 2 → bit_of p.rows (c / p.size.w) v (c % p.size.w) ≡ has p c v
-unfolding has
+pub has_read : (p : Layers) (c v : ℕ) → v < 2 → bit_of p.rows (c / p.size.w) v (c % p.size.w) ≡ planes_have p c v
+unfolding planes_have
 has_read p c v lt = rw (lt-ltb v 2 lt) refl
 
 -- a line of the trail is among those that there is room for
@@ -142,7 +142,7 @@ module _ {W : Type 0} (bits : W → ℕ) (p : Inside W) {room : ℕ}
       given_back room _ (map bits rows.items) (map bits columns.items) n are e (rw last turned)
       (length-map rows.items bits ∙ tall ∙ sym (length-map p.rows.items bits)) (length-map columns.items bits ∙ wide ∙ sym (length-map p.columns.items bits))
 
-  pub room_at : (t : Taking) → IsTakingIn p.size t → HasRoomFor room p.rows.items p.columns.items t
+  pub room_at : (t : Taking) → IsTakingIn p.size t → HasRoomForTaking room p.rows.items p.columns.items t
   room_at t within = rw (length-map p.rows.items bits, length-map p.columns.items bits) at (room_for room _ t are within)
 
   -- what was taken last
@@ -159,17 +159,17 @@ two-counted : (f : ℕ → Bool) → count_below f 2 ≡ cond (f 0) 1 0 + cond (
 unfolding count_below
 two-counted f = omega arith
 
-pub has-at : (p : Layers) (y x v : ℕ) → x < p.size.w → v < 2 → has p (y * p.size.w + x) v ≡ bit_of p.rows y v x
-unfolding has
+pub has-at : (p : Layers) (y x v : ℕ) → x < p.size.w → v < 2 → planes_have p (y * p.size.w + x) v ≡ bit_of p.rows y v x
+unfolding planes_have
 has-at p y x v lx lv = rw (div-mul-add y p.size.w x lx, place-column p.size.w y x lx, lt-ltb v 2 lv) refl
 
-values-at : (p : Layers) (y x : ℕ) → x < p.size.w → count_below (has p (y * p.size.w + x)) 2 ≡ cond (bit_of p.rows y 0 x) 1 0 + cond (bit_of p.rows y 1 x) 1 0
-values-at p y x lt = two-counted (has p (y * p.size.w + x)) ∙ rw (has-at p y x 0 lt (omega arith), has-at p y x 1 lt (omega arith)) refl
+values-at : (p : Layers) (y x : ℕ) → x < p.size.w → count_below (planes_have p (y * p.size.w + x)) 2 ≡ cond (bit_of p.rows y 0 x) 1 0 + cond (bit_of p.rows y 1 x) 1 0
+values-at p y x lt = two-counted (planes_have p (y * p.size.w + x)) ∙ rw (has-at p y x 0 lt (omega arith), has-at p y x 1 lt (omega arith)) refl
 
 -- what is so of the cells of the rows above y, and of those of row y, is so of those of one row more
-rows-more : (p : Layers) (n : ℕ → Type 0) (y : ℕ) → ((c : ℕ) → c < y * p.size.w → n (count_below (has p c) 2))
+rows-more : (p : Layers) (n : ℕ → Type 0) (y : ℕ) → ((c : ℕ) → c < y * p.size.w → n (count_below (planes_have p c) 2))
     → ((x : ℕ) → x < p.size.w → n (cond (bit_of p.rows y 0 x) 1 0 + cond (bit_of p.rows y 1 x) 1 0))
-    → (c : ℕ) → c < (y + 1) * p.size.w → n (count_below (has p c) 2)
+    → (c : ℕ) → c < (y + 1) * p.size.w → n (count_below (planes_have p c) 2)
 rows-more p n y above row c lt = elim (cases_lt c (y * p.size.w)) [
   | inl before ↦ above c before
   | inr le ↦
@@ -207,28 +207,28 @@ pick-few (suc n) K none c lt =
 pub record IsOpenRow (p : Layers) (y both : ℕ) : Type 0 where
   pub is : (x : ℕ) → has_bit both x ≡ (bit_of p.rows y 0 x && bit_of p.rows y 1 x)
 
-pub pick-row_none : (p : Layers) (room y both : ℕ) → p.size.w ≤ room → pick (y * p.size.w) 2 (has p) ≡ None
-    → IsOpenRow p y both → any_below (has_bit both) room ≡ false → pick ((y + 1) * p.size.w) 2 (has p) ≡ None
+pub pick-row_none : (p : Layers) (room y both : ℕ) → p.size.w ≤ room → pick (y * p.size.w) 2 (planes_have p) ≡ None
+    → IsOpenRow p y both → any_below (has_bit both) room ≡ false → pick ((y + 1) * p.size.w) 2 (planes_have p) ≡ None
 pick-row_none p room y both narrow none row off =
-    pick-none ((y + 1) * p.size.w) (has p) (rows-more p (λ n. n < 2) y (pick-few (y * p.size.w) (has p) none) few)
+    pick-none ((y + 1) * p.size.w) (planes_have p) (rows-more p (λ n. n < 2) y (pick-few (y * p.size.w) (planes_have p) none) few)
   where
     few : (x : ℕ) → x < p.size.w → cond (bit_of p.rows y 0 x) 1 0 + cond (bit_of p.rows y 1 x) 1 0 < 2
     few x lt = grind (arith, common_steps, cases_Bool, any_below-none (has_bit both) room off x, row.is x)
 
-pub pick-row_some : (p : Layers) (room y both x : ℕ) → y < p.size.h → x < p.size.w → pick (y * p.size.w) 2 (has p) ≡ None
-    → IsOpenRow p y both → IsLeast (has_bit both) room x → pick (cells_of p) 2 (has p) ≡ Some (y * p.size.w + x)
+pub pick-row_some : (p : Layers) (room y both x : ℕ) → y < p.size.h → x < p.size.w → pick (y * p.size.w) 2 (planes_have p) ≡ None
+    → IsOpenRow p y both → IsLeast (has_bit both) room x → pick (plane_cells p) 2 (planes_have p) ≡ Some (y * p.size.w + x)
 pick-row_some p room y both x ly lx none row least =
-    pick-first (cells_of p) (has p) (y * p.size.w + x) (place-in p.size.w p.size.h y x ly lx) here before
+    pick-first (plane_cells p) (planes_have p) (y * p.size.w + x) (place-in p.size.w p.size.h y x ly lx) here before
   where
-    here : count_below (has p (y * p.size.w + x)) 2 ≡ 2
+    here : count_below (planes_have p (y * p.size.w + x)) 2 ≡ 2
     here = values-at p y x lx ∙ grind (arith, common_steps, cases_Bool, row.is x, least.has)
 
     few : (k : ℕ) → k < x → cond (bit_of p.rows y 0 k) 1 0 + cond (bit_of p.rows y 1 k) 1 0 < 2
     few k lt = grind (arith, common_steps, cases_Bool, least.before k, row.is k)
 
-    before : (c : ℕ) → c < y * p.size.w + x → count_below (has p c) 2 < 2
+    before : (c : ℕ) → c < y * p.size.w + x → count_below (planes_have p c) 2 < 2
     before c lt = elim (cases_lt c (y * p.size.w)) [
-      | inl above ↦ pick-few (y * p.size.w) (has p) none c above
+      | inl above ↦ pick-few (y * p.size.w) (planes_have p) none c above
       | inr le ↦ let e : c ≡ y * p.size.w + (c - y * p.size.w) = omega arith in
           rw (e, values-at p y (c - y * p.size.w) (omega arith))
           (few (c - y * p.size.w) (omega arith))
@@ -237,26 +237,26 @@ pick-row_some p room y both x ly lx none row least =
 -- ---- the grid of a full board
 -- the first n numbers are values of their cells
 pub record IsWritten (p : Layers) (g : List ℕ) (n : ℕ) : Type 0 where
-  pub long : length g ≡ cells_of p
-  pub each : (c : ℕ) → c < n → (slice_index g c < 2) × (has p c (slice_index g c) ≡ true)
+  pub long : length g ≡ plane_cells p
+  pub each : (c : ℕ) → c < n → (slice_index g c < 2) × (planes_have p c (slice_index g c) ≡ true)
 
 -- of a cell with one value, that it has 1 is its value
-one-value : (p : Layers) (c n : ℕ) → is_full (cells_of p) 2 (has p) ≡ true → c < cells_of p → n ≡ bool_byte (has p c 1) → (n < 2) × (has p c n ≡ true)
-one-value p c n full lt is = by (has p c 1) refl
+one-value : (p : Layers) (c n : ℕ) → is_full (plane_cells p) 2 (planes_have p) ≡ true → c < plane_cells p → n ≡ bool_byte (planes_have p c 1) → (n < 2) × (planes_have p c n ≡ true)
+one-value p c n full lt is = by (planes_have p c 1) refl
   where
-    count : cond (has p c 0) 1 0 + cond (has p c 1) 1 0 ≡ 1
-    count = sym (two-counted (has p c)) ∙ is_full-count (cells_of p) 2 (has p) c full lt
+    count : cond (planes_have p c 0) 1 0 + cond (planes_have p c 1) 1 0 ≡ 1
+    count = sym (two-counted (planes_have p c)) ∙ is_full-count (plane_cells p) 2 (planes_have p) c full lt
 
-    by : (b : Bool) → has p c 1 ≡ b → (n < 2) × (has p c n ≡ true)
+    by : (b : Bool) → planes_have p c 1 ≡ b → (n < 2) × (planes_have p c n ≡ true)
     by true e = let n_is : n ≡ 1 = is ∙ rw e refl in (omega arith, rw n_is e)
     by false e = let n_is : n ≡ 0 = is ∙ rw e refl in (omega arith, rw n_is (grind (arith, common_steps, cases_Bool, count)))
 
-pub written-more : (p : Layers) (g : List ℕ) (y x n : ℕ) → is_full (cells_of p) 2 (has p) ≡ true
+pub written-more : (p : Layers) (g : List ℕ) (y x n : ℕ) → is_full (plane_cells p) 2 (planes_have p) ≡ true
     → y < p.size.h → x < p.size.w → IsWritten p g (y * p.size.w + x)
     → n ≡ bool_byte (bit_of p.rows y 1 x) → IsWritten p (set g (y * p.size.w + x) n) (y * p.size.w + (x + 1))
 written-more p g y x n full ly lx written is =
     let place = y * p.size.w + x in
-    let lt : place < cells_of p = place-in p.size.w p.size.h y x ly lx in
+    let lt : place < plane_cells p = place-in p.size.w p.size.h y x ly lx in
     let one = one-value p place n full lt (is ∙ ap bool_byte (sym (has-at p y x 1 lx (omega arith)))) in
     record {
       long = length-set g place n ∙ written.long;
@@ -266,13 +266,13 @@ written-more p g y x n full ly lx written is =
       ];
     }
 
-pub written-all : (p : Layers) (g : List ℕ) → is_full (cells_of p) 2 (has p) ≡ true → IsWritten p g (cells_of p) → g ≡ grid_of (cells_of p) 2 (has p)
-written-all p g full written = sym (grid_of-full (cells_of p) 2 (has p) g full written.long (λ c lt. (written.each c lt).0) (λ c v on.
+pub written-all : (p : Layers) (g : List ℕ) → is_full (plane_cells p) 2 (planes_have p) ≡ true → IsWritten p g (plane_cells p) → g ≡ grid_of (plane_cells p) 2 (planes_have p)
+written-all p g full written = sym (grid_of-full (plane_cells p) 2 (planes_have p) g full written.long (λ c lt. (written.each c lt).0) (λ c v on.
     let w = single-is g c v on in rw (← w.1) (written.each c (omega (arith, w.0, written.long))).1))
 
 -- ---- one value of a cell kept
-value-in : (p : Layers) (c v : ℕ) → has p c v ≡ true → v < 2
-unfolding has
+value-in : (p : Layers) (c v : ℕ) → planes_have p c v ≡ true → v < 2
+unfolding planes_have
 value-in p c v on = ltb-true v 2 (and_parts _ _ on).0
 
 other-value : (u v : ℕ) → u < 2 → v < 2 → eqb u (1 - v) ≡ not (eqb u v)
@@ -282,6 +282,6 @@ same-cell : (w c d : ℕ) → (eqb (d / w) (c / w) && eqb (d % w) (c % w)) ≡ e
 same-cell w c d = grind (arith, cases_eq, eq-eqb, ne_eqb, false_from_ne_true, and_parts, div-add-mod', eqb-true)
 
 pub kept-only : (p : Layers) (c v bits : ℕ) → v < 2 → ((x : ℕ) → has_bit bits x ≡ eqb x (c % p.size.w))
-    → without_taking p.size.w (has p) (record { line = Row (c / p.size.w); value = 1 - v; bits = bits }) ≡ only (has p) c v
+    → without_taking p.size.w (planes_have p) (record { line = Row (c / p.size.w); value = 1 - v; bits = bits }) ≡ only (planes_have p) c v
 unfolding without_taking covers crosses only
 kept-only p c v bits lt is = grind (arith, cases_Bool, other-value, value-in, same-cell, eqb)

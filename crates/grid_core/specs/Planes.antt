@@ -56,15 +56,15 @@ pub record Layers : Type 0 where
   pub len : ℕ
 
 -- whether the cell can have the value
-unfoldable pub has : Layers → Candidates
-has p c v = nat_lt v 2 && bit_of p.rows (c / p.size.w) v (c % p.size.w)
+unfoldable pub planes_have : Layers → Candidates
+planes_have p c v = nat_lt v 2 && bit_of p.rows (c / p.size.w) v (c % p.size.w)
 
 -- the board of planes without what is taken
 abbrev pub has_without : Layers → Taking → Candidates
-has_without p t = without_taking p.size.w (has p) t
+has_without p t = without_taking p.size.w (planes_have p) t
 
-abbrev pub cells_of : Layers → ℕ
-cells_of p = p.size.w * p.size.h
+abbrev pub plane_cells : Layers → ℕ
+plane_cells p = p.size.w * p.size.h
 
 abbrev pub taking_at : List Taking → ℕ → Taking
 taking_at takings k = slice_index_or takings k no_taking
@@ -75,7 +75,7 @@ with_first w K takings m n = put_back (turned_by w) no_taking K takings m n
 
 -- the board when the trail had length n
 abbrev pub back_at : Layers → ℕ → Candidates
-back_at p n = with_first p.size.w (has p) p.takings n p.len
+back_at p n = with_first p.size.w (planes_have p) p.takings n p.len
 
 -- a line of the grid, with places in its crossing lines alone
 abbrev pub IsLineIn : Extent → Line → ℕ → Type 0
@@ -108,12 +108,12 @@ pub record ArePlanes (room : ℕ) (p : Layers) : Type 0 where
   pub tall : length p.rows ≡ 2 * room
   pub wide : length p.columns ≡ 2 * room
   pub words : AreWords p.size p.rows p.columns
-  pub takings : AreTakings p.size (has p) p.takings p.len
+  pub takings : AreTakings p.size (planes_have p) p.takings p.len
 
 -- planes of a grid of this size, with this board and nothing taken
 pub record IsFresh (size : Extent) (K : Candidates) (p : Layers) : Type 0 where
   pub same_size : p.size ≡ size
-  pub holds : has p ≡ K
+  pub holds : planes_have p ≡ K
   pub none : p.len ≡ 0
 
 -- the second board lacks a value of the first
@@ -124,19 +124,19 @@ HasLost K L = (c : ℕ) × (v : ℕ) × (K c v ≡ true) × (L c v ≡ false)
 pub record IsFurther (from to : Layers) : Type 0 where
   pub same_size : to.size ≡ from.size
   pub same_room : length to.takings ≡ length from.takings
-  pub inside : IsInside (has to) (has from)
+  pub inside : IsInside (planes_have to) (planes_have from)
   pub grows : from.len ≤ to.len
-  pub same : to.len ≡ from.len → has to ≡ has from
-  pub lost : from.len < to.len → HasLost (has from) (has to)
+  pub same : to.len ≡ from.len → planes_have to ≡ planes_have from
+  pub lost : from.len < to.len → HasLost (planes_have from) (planes_have to)
   pub back : (n : ℕ) → n ≤ from.len → back_at to n ≡ back_at from n
 
 -- the board was taken back to when the trail had length n, and has each value that it had: each shorter one gives back the same
 pub record IsBack (from to : Layers) (n : ℕ) : Type 0 where
   pub same_size : to.size ≡ from.size
   pub same_room : length to.takings ≡ length from.takings
-  pub here : has to ≡ back_at from n
+  pub here : planes_have to ≡ back_at from n
   pub len : to.len ≡ n
-  pub regained : IsInside (has from) (has to)
+  pub regained : IsInside (planes_have from) (planes_have to)
   pub back : (m : ℕ) → m ≤ n → back_at to m ≡ back_at from m
 
 -- the words of which a taking was turned over
@@ -182,8 +182,8 @@ HasLine room rows columns (Row y) value bits = (y < room) × (2 * y + value < ro
 HasLine room rows columns (Column x) value bits = (x < room) × (2 * x + value < columns)
     × AreCrossed room rows value bits
 
-abbrev pub HasRoomFor : {W : Type 0} → ℕ → List W → List W → Taking → Type 0
-HasRoomFor room rows columns t =
+abbrev pub HasRoomForTaking : {W : Type 0} → ℕ → List W → List W → Taking → Type 0
+HasRoomForTaking room rows columns t =
     (t.value < 2) × HasLine room (length rows) (length columns) t.line t.value t.bits
 
 -- each cell of what is to be taken has the value, and there is one

@@ -4,7 +4,7 @@
 ghost use Rattle.std.specs.Prelude.{◌≡◌, ℕ, ◌+◌, ◌*◌, ◌/◌, ◌%◌, ◌<◌, ◌≤◌, length, nat_lt, true, IfOk};
 ghost use Rattle.grid_core.specs.Candidates.{all_of};
 ghost use Rattle.grid_core.specs.Words.{has_bit};
-ghost use Rattle.grid_core.specs.Planes.{bit_of, has, cells_of, back_at, has_without, taking, ArePlanes, IsThere, IsFresh, IsFurther, IsBack, at_line, lines_beside, line_len, number_of};
+ghost use Rattle.grid_core.specs.Planes.{bit_of, planes_have, plane_cells, back_at, has_without, taking, ArePlanes, IsThere, IsFresh, IsFurther, IsBack, at_line, lines_beside, line_len, number_of};
 
 pub(crate) mod line;
 pub(crate) mod touched_lines;
@@ -122,10 +122,10 @@ impl<W: Word> Planes<W> {
 
     /// The row and the column of a cell. Behind the last cell a row begins.
     pub fn split(&self, place: usize) -> (usize, usize)
-        requires { place ≤ cells_of self.now }
+        requires { place ≤ plane_cells self.now }
         ensures row { result.0 ≡ place / self.now.size.w }
         ensures column { result.1 ≡ place % self.now.size.w }
-        ensures row_in { place < cells_of self.now → result.0 < self.now.size.h }
+        ensures row_in { place < plane_cells self.now → result.0 < self.now.size.h }
         ensures column_in { result.1 < self.now.size.w }
         ensures lawful { ArePlanes W.room self.now }
     {
@@ -173,9 +173,9 @@ impl<W: Word> Planes<W> {
 
     /// Whether the cell can have the value.
     pub fn has(&self, place: usize, value: u8) -> bool
-        requires place_in { place < cells_of self.now }
+        requires place_in { place < plane_cells self.now }
         requires value_in { value < 2 }
-        ensures { result ≡ has self.now place value }
+        ensures { result ≡ planes_have self.now place value }
     {
         let (y, x) = self.split(place);
         self.rows[2 * y + usize::from(value)].has(x)
@@ -184,7 +184,7 @@ impl<W: Word> Planes<W> {
     /// How long the trail is: what `undo` takes to come back to the board as it is now.
     pub fn len(&self) -> usize
         ensures len { result ≡ self.now.len }
-        ensures here { back_at self.now result ≡ has self.now }
+        ensures here { back_at self.now result ≡ planes_have self.now }
     {
         self.len
     }
@@ -193,7 +193,7 @@ impl<W: Word> Planes<W> {
     pub fn take(&mut self, line: Line, value: u8, bits: W)
         requires line_in { number_of line < lines_beside self.old.size line }
         requires value_in { value < 2 }
-        ensures left { has self.new ≡ has_without self.old (taking W.bits line value bits) }
+        ensures left { planes_have self.new ≡ has_without self.old (taking W.bits line value bits) }
         ensures further { IsFurther self.old self.new }
     {
         let there = self.line(line, value).both(bits);
@@ -205,7 +205,7 @@ impl<W: Word> Planes<W> {
     /// Takes the value from cells of a line, each of which can have it, and notes them.
     fn take_all(&mut self, line: Line, value: u8, bits: W)
         requires { IsThere self.old (taking W.bits line value bits) }
-        ensures left { has self.new ≡ has_without self.old (taking W.bits line value bits) }
+        ensures left { planes_have self.new ≡ has_without self.old (taking W.bits line value bits) }
         ensures further { IsFurther self.old self.new }
     {
         self.changes[self.len] = Change { line, value, bits };

@@ -2,7 +2,7 @@
 use Rattle.pattern_core.proofs.Common.{AreClues, ArePlanes, ArePositive, Bool, Candidates, Column, Decision, Extent, FitsIn, IsAlive, IsBitsOf, IsBoardOf, IsClue, IsDead, IsDecided, IsDecidedBy, IsExtent, IsLawful, IsPattern, IsWithin, Layers, Layout, Line, List, Needs, Pattern, Row, RuleSystem, Taking, [], after, and-true, and_from, and_parts, and_right, any_below, any_below-here, any_below-none, any_below-some, ap, ap₂, arith, at_line, bits-of_values, cases_Bool, cases_eq, cases_lt, clue_of, common_steps, cond, count_below, count_below-none, count_below-pos, count_below-same, counts_of, div-add-mod', div-mul-add, div_below, eq-eqb, eqb, eqb-true, false, false_from_ne_true, fun_ext, get_or, has-within, has_bit, has_lost, has_place, has_place-at, has_place-here, has_runs, line_house, in_grid, inl, inr, is_dead-each, is_dead-here, is_dead-not, kept-decided, kept_in, le-ltb, length, length-line_places, line_cells, line_len, line_places, line_rules, line_rules-lawful, line_short, lines_beside, lines_of, lt-ltb, ltb, mod-mul-add, mod_below, needs_of, not, number_of, or_cases, place_in_column, place_in_row, refl, sets-bits, sets_by, slice_index, strikes_at, strikes_by_fillings, subst, suc, sym, true, true≢false, used, visited-after, zero, ℕ, ◌%◌, ◌&&◌, ◌*◌, ◌+◌, ◌-◌, ◌/◌, ◌<◌, ◌||◌, ◌∙◌, ◌∷◌, ◌≡◌, ◌≤◌}
 use Rattle.grid_core.specs.Candidates.{IsWithin as HasCells}
 unfoldable use Rattle.grid_core.specs.Board.{has as on_board}
-unfoldable use Rattle.grid_core.specs.Planes.{covers, crosses, has, without_taking}
+unfoldable use Rattle.grid_core.specs.Planes.{covers, crosses, planes_have, without_taking}
 use Rattle.grid_core.proofs.PlaneSteps.{has-at}
 use Rattle.engine_core.proofs.HouseLemmas.{kept-after}
 use Rattle.engine_core.specs.Keeping.{AreSetsOf}
@@ -33,7 +33,7 @@ cell-at size (Row y) k lt less = let e : (size.w + y) - size.w ≡ y = omega ari
 cell-at size (Column x) k lt less = place_in_column size x k lt less
 
 pub read-at : (p : Layers) (line : Line) (k v : ℕ) → number_of line < lines_beside p.size line → k < line_len p.size line → v < 2
-    → has p (cell_of p.size line k) v ≡ at_line p line v k
+    → planes_have p (cell_of p.size line k) v ≡ at_line p line v k
 read-at p (Row y) k v lt less low = has-at p y k v less low
 read-at p (Column x) k v lt less low = has-at p k x v lt low
 
@@ -72,7 +72,7 @@ two-counted f = omega arith
 
 -- ---- what is kept of a line
 module _ (pat : Pattern) (p : Layers) (line : Line) (same : p.size ≡ pat.size) (lt : number_of line < lines_beside pat.size line)
-    (some : 0 < pat.size.w) (within : HasCells (pat.size.w * pat.size.h) 2 (has p)) (white black white' black' : ℕ)
+    (some : 0 < pat.size.w) (within : HasCells (pat.size.w * pat.size.h) 2 (planes_have p)) (white black white' black' : ℕ)
     (white_is : (k : ℕ) → has_bit white k ≡ at_line p line 0 k) (black_is : (k : ℕ) → has_bit black k ≡ at_line p line 1 k)
     (d : IsDecidedBy (clue_of pat (line_house pat.size line)) (sets_by white black (line_len pat.size line)) (sets_by white' black' (line_len pat.size line))) where
   abbrev size : Extent
@@ -85,7 +85,7 @@ module _ (pat : Pattern) (p : Layers) (line : Line) (same : p.size ≡ pat.size)
   places = line_places size house
 
   abbrev K : Candidates
-  K = has p
+  K = planes_have p
 
   long : length places ≡ line_len size line
   long = length-line_places size house ∙ line-long size line lt
@@ -235,7 +235,7 @@ module _ (pat : Pattern) (p : Layers) (line : Line) (same : p.size ≡ pat.size)
     ])
 
 -- ---- what is read of planes
-pub cells-in : {room : ℕ} {p : Layers} {size : Extent} → ArePlanes room p → p.size ≡ size → HasCells (size.w * size.h) 2 (has p)
+pub cells-in : {room : ℕ} {p : Layers} {size : Extent} → ArePlanes room p → p.size ≡ size → HasCells (size.w * size.h) 2 (planes_have p)
 cells-in {room} {p} are same = rw (← same) (has-within p room are)
 
 pub wide-in : {room : ℕ} {p : Layers} {size : Extent} → ArePlanes room p → p.size ≡ size → 0 < size.w
@@ -250,11 +250,11 @@ pub line-within : {room : ℕ} {p : Layers} (line : Line) {size : Extent} → Ar
 line-within {room} {p} line are same k v on low = rw (← same) (line-room room p line k v are on low)
 
 -- two takings, one after the other
-pub both-taken : (p0 p1 p2 : Layers) {size : Extent} (t0 t1 : Taking) → p0.size ≡ size → p1.size ≡ p0.size → has p1 ≡ without_taking p0.size.w (has p0) t0
-    → has p2 ≡ without_taking p1.size.w (has p1) t1 → has p2 ≡ without_taking size.w (without_taking size.w (has p0) t0) t1
+pub both-taken : (p0 p1 p2 : Layers) {size : Extent} (t0 t1 : Taking) → p0.size ≡ size → p1.size ≡ p0.size → planes_have p1 ≡ without_taking p0.size.w (planes_have p0) t0
+    → planes_have p2 ≡ without_taking p1.size.w (planes_have p1) t1 → planes_have p2 ≡ without_taking size.w (without_taking size.w (planes_have p0) t0) t1
 both-taken p0 p1 p2 t0 t1 f0 f1 e1 e2 =
     e2
-    ∙ ap₂ (λ w K. without_taking w K t1) (ap (λ (s : Extent). s.w) (f1 ∙ f0)) (e1 ∙ ap (λ w. without_taking w (has p0) t0) (ap (λ (s : Extent). s.w) f0))
+    ∙ ap₂ (λ w K. without_taking w K t1) (ap (λ (s : Extent). s.w) (f1 ∙ f0)) (e1 ∙ ap (λ w. without_taking w (planes_have p0) t0) (ap (λ (s : Extent). s.w) f0))
 
 -- A visit of a line, from its three steps, and the clues that it reads.
 

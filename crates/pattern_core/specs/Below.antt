@@ -8,7 +8,7 @@ pub use Rattle.grid_core.specs.Grids.{IsGrid, column_cells, row_cells}
 pub use Rattle.grid_core.specs.Lines.{lines_of}
 unfoldable pub use Rattle.grid_core.specs.Lines.{line_numbers, line_places}
 pub use Rattle.grid_core.specs.Planes.{IsFurther, Layers, lines_beside, number_of}
-unfoldable pub use Rattle.grid_core.specs.Planes.{has}
+unfoldable pub use Rattle.grid_core.specs.Planes.{planes_have}
 pub use Rattle.grid_core.specs.Words.{has_bit}
 pub use Rattle.gameid_core.specs.Lines.{runs}
 pub use Rattle.gameid_core.specs.Puzzles.{IsPattern, Pattern, used}

@@ -1,5 +1,5 @@
 -- Lines of a board on planes: what a visit of one reads and leaves, and which lines wait. No public contract uses these words.
-use Rattle.pattern_core.specs.Below.{Extent, IsAlive, IsDead, IsIdle, IsTaken, Layers, Pattern, RuleSystem, after, from_bool, has, has_bit, lines_beside, number_of, range_with_len}
+use Rattle.pattern_core.specs.Below.{Extent, IsAlive, IsDead, IsIdle, IsTaken, Layers, Pattern, RuleSystem, after, from_bool, planes_have, has_bit, lines_beside, number_of, range_with_len}
 use Rattle.std.specs.Prelude.{◌≡◌, ℕ, map, ◌+◌, ◌-◌, ◌*◌, ◌<◌, ◌≤◌, Bool, true, false, not, ◌&&◌, ◌||◌, ◌==◌, nat_lt, if◌then◌else◌, List, length, slice_index, Option, Some, None}
 use Rattle.grid_core.specs.Candidates.{Candidates, IsWithin as HasCells}
 use Rattle.grid_core.specs.declared.planes.line.Line.{Line}
@@ -98,7 +98,7 @@ IsLineVisited bits p h K K' (Some lost) = (K' ≡ after p h K) × IsAlive p K'
 -- a visit of that line of the puzzle
 abbrev pub IsVisitOf : {W : Type 0} → (W → ℕ) → Pattern → Line → Layers → Layers → Option W → Type 0
 IsVisitOf bits p line from to lost =
-    IsLineVisited bits (line_rules p) (line_house p.size line) (has from) (has to) lost
+    IsLineVisited bits (line_rules p) (line_house p.size line) (planes_have from) (planes_have to) lost
 
 -- ---- where a closing begins
 -- a line that does not wait strikes nothing from the board
@@ -125,4 +125,4 @@ pub record HasLineRoom (room : ℕ) (p : Pattern) (K : Candidates) : Type 0 wher
 
 -- a closing of the puzzle's board, from planes to planes
 abbrev pub IsClosedTo : Pattern → Layers → Layers → Closing → Type 0
-IsClosedTo p from to closing = IsTaken (line_rules p) (has from) (has to) closing
+IsClosedTo p from to closing = IsTaken (line_rules p) (planes_have from) (planes_have to) closing

@@ -2,7 +2,7 @@
 
 ghost use Rattle.std.specs.Prelude.{◌≡◌, ◌≤◌, ◌*◌, IfOk, length, true};
 ghost use Rattle.grid_core.specs.Extent.{Extent, IsExtent};
-ghost use Rattle.grid_core.specs.Planes.{IsFurther, has};
+ghost use Rattle.grid_core.specs.Planes.{IsFurther, planes_have};
 ghost use Rattle.engine_core.specs.Common.{FitsIn, IsAlive, IsClosedBut, IsClosedGrid, IsClosedIn, IsTaken, Needs, StillServes, needs_in, needs_of};
 ghost use Rattle.engine_core.specs.PlaneNotes.{AreKept, HasBoard, IsSuited};
 
@@ -80,7 +80,7 @@ pub trait PlaneNotes<W: Word, R: BinaryRules>: Drop + Sized {
         requires fits { fits self.old (needs_of (R.system rules.now)) }
         requires suited { IsSuited (R.extent rules.now) W.room }
         requires few { (R.system rules.now).cells * 2 ≤ length planes.old.takings }
-        ensures start { has planes.new ≡ (R.system rules.now).start }
+        ensures start { planes_have planes.new ≡ (R.system rules.now).start }
         ensures size { planes.new.size ≡ R.extent rules.now }
         ensures room { length planes.new.takings ≡ length planes.old.takings }
         ensures written { written rules.now self.new }
@@ -98,11 +98,11 @@ pub trait PlaneNotes<W: Word, R: BinaryRules>: Drop + Sized {
         requires fits { fits self.old (needs_of (R.system rules.now)) }
         requires written { written rules.now self.old }
         requires board { HasBoard (R.system rules.now) (R.extent rules.now) W.room planes.old }
-        requires closed_but { IsClosedBut (R.system rules.now) (has planes.old) from }
-        ensures taken { IsTaken (R.system rules.now) (has planes.old) (has planes.new)
+        requires closed_but { IsClosedBut (R.system rules.now) (planes_have planes.old) from }
+        ensures taken { IsTaken (R.system rules.now) (planes_have planes.old) (planes_have planes.new)
             result.closing }
-        ensures turns { IsClosedIn (R.system rules.now) (has planes.old) result.turns }
-        ensures alive { IsAlive (R.system rules.now) (has planes.new) }
+        ensures turns { IsClosedIn (R.system rules.now) (planes_have planes.old) result.turns }
+        ensures alive { IsAlive (R.system rules.now) (planes_have planes.new) }
         ensures further { IsFurther planes.old planes.new }
         ensures kept { AreKept fits written self.old self.new }
         ensures keeps { StillServes R.serves scratch.old scratch.new };

@@ -2,7 +2,7 @@
 #![tactic(auto, using(crate::proofs::LawSets::trail_laws))]
 
 ghost use Rattle.std.specs.Prelude.{◌≡◌, ◌≢◌, ℕ, ◌+◌, ◌*◌, ◌<◌, ◌≤◌, IfOk, bit_and, length, true, false};
-ghost use Rattle.engine_core.specs.Common.{has, cells_of, SameShape, IsInside, count_below, only, max_cells, max_values, IsAlive, IsDeadAfter, KeepsChanges, IsBoardOf, IsMarkedOut, needs_of, IsBitsOf, back_at, change_at, left_by, IsTrailLonger, IsTrailBack, IsHouseStruck};
+ghost use Rattle.engine_core.specs.Common.{has, cells_of, SameShape, IsInside, count_below, only, max_cells, max_values, IsAlive, IsDeadAfter, KeepsChanges, IsBoardOf, IsMarkedOut, needs_of, IsBitsOf, trail_back_at, change_at, left_by, IsTrailLonger, IsTrailBack, IsHouseStruck};
 
 use crate::house_rules::HouseRules;
 use crate::notes::Notes;
@@ -61,7 +61,7 @@ impl TrailedBoard {
     /// How many changes were noted: to go back to this many is to go back to the board as it is now.
     pub(crate) fn len(&self) -> usize
         ensures len { result ≡ self.now.len }
-        ensures here { back_at self.now result ≡ has self.now.board }
+        ensures here { trail_back_at self.now result ≡ has self.now.board }
     {
         self.len
     }
@@ -79,7 +79,7 @@ impl TrailedBoard {
     pub(crate) fn start<R: Rules>(&mut self, rules: &R)
         requires board_of { IsBoardOf (R.system rules.now) self.old.board }
         ensures start { has self.new.board ≡ (R.system rules.now).start }
-        ensures here { back_at self.new 0 ≡ has self.new.board }
+        ensures here { trail_back_at self.new 0 ≡ has self.new.board }
         ensures shape { SameShape self.old.board self.new.board }
         ensures room { length self.new.changes ≡ length self.old.changes }
     {

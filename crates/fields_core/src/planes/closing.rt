@@ -2,7 +2,7 @@
 
 ghost use Rattle.std.specs.Prelude.{◌≡◌, true};
 ghost use Rattle.engine_core.specs.ClosingList.{IsAlive};
-ghost use Rattle.fields_core.specs.Common.{AreKept, HasBoard, IsClosedIn, IsClosedByCounts, IsCounted, IsFurther, IsSweep, Layers, Needs, has, rules_of};
+ghost use Rattle.fields_core.specs.Common.{AreKept, HasBoard, IsClosedIn, IsClosedByCounts, IsCounted, IsFurther, IsSweep, Layers, Needs, planes_have, rules_of};
 
 use crate::count::game::CountGame;
 use crate::planes::rules::GridGame;
@@ -41,8 +41,8 @@ pub(crate) fn close<W: Word, P: GridGame, N: SweepNotes<W, P>>(
         planes.old }
     requires ready { N.ready puzzle.now planes.old notes.old }
     ensures taken { IsClosedByCounts (P.counts puzzle.now) planes.old planes.new result.closing }
-    ensures turns { IsClosedIn (rules_of (P.counts puzzle.now)) (has planes.old) result.turns }
-    ensures alive { IsAlive (rules_of (P.counts puzzle.now)) (has planes.new) }
+    ensures turns { IsClosedIn (rules_of (P.counts puzzle.now)) (planes_have planes.old) result.turns }
+    ensures alive { IsAlive (rules_of (P.counts puzzle.now)) (planes_have planes.new) }
     ensures further { IsFurther planes.old planes.new }
     ensures kept { AreKept N.fits N.written notes.old notes.new }
 {

@@ -2,7 +2,7 @@
 #![tactic(auto)]
 
 ghost use Rattle.std.specs.Prelude.{◌≡◌, ℕ, ◌<◌, ◌≤◌, true};
-ghost use Rattle.grid_core.specs.Planes.{has, back_at, crosses, number_of, AreLinesOf, ArePlanes, IsLostIn};
+ghost use Rattle.grid_core.specs.Planes.{planes_have, back_at, crosses, number_of, AreLinesOf, ArePlanes, IsLostIn};
 
 use crate::planes::Planes;
 use crate::planes::line::Line;
@@ -51,9 +51,9 @@ impl<W: Word> Planes<W> {
     /// The lines of the cells that lost 0 since the trail had that length, and of those that lost 1.
     pub fn lost(&self, len: usize) -> (Touched<W>, Touched<W>)
         requires { len ≤ self.now.len }
-        ensures zeros { IsLostIn W.bits self.now.size.w 0 (back_at self.now len) (has self.now)
+        ensures zeros { IsLostIn W.bits self.now.size.w 0 (back_at self.now len) (planes_have self.now)
             result.0 }
-        ensures ones { IsLostIn W.bits self.now.size.w 1 (back_at self.now len) (has self.now)
+        ensures ones { IsLostIn W.bits self.now.size.w 1 (back_at self.now len) (planes_have self.now)
             result.1 }
         ensures lawful { ArePlanes W.room self.now }
     {

@@ -3,7 +3,7 @@
 
 ghost use Rattle.std.specs.Prelude.{◌≡◌, ◌*◌, ◌<◌, ◌≤◌, length, true, None};
 ghost use Rattle.grid_core.specs.Candidates.{count_below, grid_of, is_full, only, pick};
-ghost use Rattle.grid_core.specs.Planes.{has, cells_of, IsFurther};
+ghost use Rattle.grid_core.specs.Planes.{planes_have, plane_cells, IsFurther};
 
 use crate::grid::Grid;
 use crate::planes::Planes;
@@ -14,8 +14,8 @@ impl<W: Word> Planes<W> {
     /// The cell to branch on: the lowest that can have both values, where no cell above the row `from` can.
     pub fn pick(&self, from: u8) -> Option<usize>
         requires from_in { from ≤ self.now.size.h }
-        requires none { pick (from * self.now.size.w) 2 (has self.now) ≡ None }
-        ensures { result ≡ pick (cells_of self.now) 2 (has self.now) }
+        requires none { pick (from * self.now.size.w) 2 (planes_have self.now) ≡ None }
+        ensures { result ≡ pick (plane_cells self.now) 2 (planes_have self.now) }
     {
         let size = self.size();
         for y in from..size.h() {
@@ -29,10 +29,10 @@ impl<W: Word> Planes<W> {
 
     /// Leaves that value alone in a cell that can have both, and notes the other.
     pub fn assign(&mut self, place: usize, value: u8)
-        requires place_in { place < cells_of self.old }
+        requires place_in { place < plane_cells self.old }
         requires value_in { value < 2 }
-        requires several { 2 ≤ count_below (has self.old place) 2 }
-        ensures left { has self.new ≡ only (has self.old) place value }
+        requires several { 2 ≤ count_below (planes_have self.old place) 2 }
+        ensures left { planes_have self.new ≡ only (planes_have self.old) place value }
         ensures further { IsFurther self.old self.new }
     {
         let (y, x) = self.split(place);
@@ -41,9 +41,9 @@ impl<W: Word> Planes<W> {
 
     /// Writes each cell's only value.
     pub fn write_grid(&self, grid: &mut Grid)
-        requires full { is_full (cells_of self.now) 2 (has self.now) ≡ true }
-        requires long { length grid.old ≡ cells_of self.now }
-        ensures { grid.new ≡ grid_of (cells_of self.now) 2 (has self.now) }
+        requires full { is_full (plane_cells self.now) 2 (planes_have self.now) ≡ true }
+        requires long { length grid.old ≡ plane_cells self.now }
+        ensures { grid.new ≡ grid_of (plane_cells self.now) 2 (planes_have self.now) }
     {
         let size = self.size();
         let w = usize::from(size.w());

@@ -2,7 +2,7 @@
 #![tactic(auto)]
 
 ghost use Rattle.std.specs.Prelude.{◌≡◌, ℕ, ◌+◌, ◌*◌, ◌<◌, ◌≤◌, false, length};
-ghost use Rattle.grid_core.specs.Planes.{bit_in, taking, AreCrossed, AreLinesFilled, HasRoomFor, IsTurned, IsTurnedAcross, IsTurnedAlong};
+ghost use Rattle.grid_core.specs.Planes.{bit_in, taking, AreCrossed, AreLinesFilled, HasRoomForTaking, IsTurned, IsTurnedAcross, IsTurnedAlong};
 
 use crate::fixed::Fixed;
 use crate::planes::line::Line;
@@ -57,7 +57,7 @@ pub(crate) fn turn_line<W: Word>(
     value: u8,
     bits: W,
 )
-    requires { HasRoomFor W.room rows.old.items columns.old.items (taking W.bits line value bits) }
+    requires { HasRoomForTaking W.room rows.old.items columns.old.items (taking W.bits line value bits) }
     ensures turned { IsTurned W.bits line value bits rows.old columns.old rows.new columns.new }
     ensures tall { length rows.new.items ≡ length rows.old.items }
     ensures wide { length columns.new.items ≡ length columns.old.items }

@@ -1,7 +1,7 @@
 //! The closing of a board on planes.
 
 ghost use Rattle.std.specs.Prelude.{◌&&◌, ◌<◌, ◌≡◌, ◌≤◌};
-ghost use Rattle.pattern_core.specs.Below.{IsAlive, IsClosedBut, IsFurther, has, number_of};
+ghost use Rattle.pattern_core.specs.Below.{IsAlive, IsClosedBut, IsFurther, planes_have, number_of};
 ghost use Rattle.engine_core.specs.Counts.{IsClosedIn};
 ghost use Rattle.pattern_core.specs.LinePlanes.{AreLinesRested, AreLinesWithin, AreLinesMarked, HasLineRoom, IsClosedTo, IsStart, is_same};
 ghost use Rattle.pattern_core.specs.LineRules.{line_rules};
@@ -42,10 +42,10 @@ fn at_start<W: Word>(rules: &PatternLines) -> LinesWaiting<W>
 /// The lines that wait where a closing begins: those of the place, or where none is named those that may strike at the start.
 fn first<W: Word>(planes: &Planes<W>, rules: &PatternLines, from: Option<usize>) -> LinesWaiting<W>
     requires size { planes.now.size ≡ rules.now.pattern.size }
-    requires closed_but { IsClosedBut (line_rules rules.now.pattern) (has planes.now) from }
-    ensures rested { AreLinesRested W.bits rules.now.pattern (has planes.now) result }
+    requires closed_but { IsClosedBut (line_rules rules.now.pattern) (planes_have planes.now) from }
+    ensures rested { AreLinesRested W.bits rules.now.pattern (planes_have planes.now) result }
     ensures within { AreLinesWithin W.bits rules.now.pattern.size result }
-    ensures fits { HasLineRoom W.room rules.now.pattern (has planes.now) }
+    ensures fits { HasLineRoom W.room rules.now.pattern (planes_have planes.now) }
 {
     let _size = planes.size(); // no side is longer than a word
     let Some(place) = from else {
@@ -65,10 +65,10 @@ pub(crate) fn close<W: Word>(
     scratch: &mut LineScratch,
 ) -> Taken
     requires size { planes.old.size ≡ rules.now.pattern.size }
-    requires closed_but { IsClosedBut (line_rules rules.now.pattern) (has planes.old) from }
+    requires closed_but { IsClosedBut (line_rules rules.now.pattern) (planes_have planes.old) from }
     ensures taken { IsClosedTo rules.now.pattern planes.old planes.new result.closing }
-    ensures turns { IsClosedIn (line_rules rules.now.pattern) (has planes.old) result.turns }
-    ensures alive { IsAlive (line_rules rules.now.pattern) (has planes.new) }
+    ensures turns { IsClosedIn (line_rules rules.now.pattern) (planes_have planes.old) result.turns }
+    ensures alive { IsAlive (line_rules rules.now.pattern) (planes_have planes.new) }
     ensures further { IsFurther planes.old planes.new }
 {
     let mut waits = first(planes, rules, from);

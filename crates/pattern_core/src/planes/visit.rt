@@ -2,7 +2,7 @@
 
 ghost use Rattle.std.specs.Prelude.{◌<◌, ◌≡◌, ◌≤◌, None, true, ℕ};
 ghost use Rattle.grid_core.specs.Planes.{has_without, line_len, taking};
-ghost use Rattle.pattern_core.specs.Below.{IsAlive, IsFurther, has, has_bit, lines_beside, number_of};
+ghost use Rattle.pattern_core.specs.Below.{IsAlive, IsFurther, planes_have, has_bit, lines_beside, number_of};
 ghost use Rattle.pattern_core.specs.LinePlanes.{IsVisitOf, line_house};
 ghost use Rattle.pattern_core.specs.LineRules.{line_rules};
 
@@ -27,7 +27,7 @@ fn take_any<W: Word>(planes: &mut Planes<W>, line: Line, value: u8, bits: W)
     requires value_in { value < 2 }
     requires fits { line_len planes.old.size line ≤ W.room }
     requires within { (k : ℕ) → has_bit (W.bits bits) k ≡ true → k < line_len planes.old.size line }
-    ensures left { has planes.new ≡ has_without planes.old (taking W.bits line value bits) }
+    ensures left { planes_have planes.new ≡ has_without planes.old (taking W.bits line value bits) }
     ensures further { IsFurther planes.old planes.new }
 {
     if bits.is_some() {
@@ -45,7 +45,7 @@ pub(crate) fn visit<W: Word>(
 ) -> Option<W>
     requires size { planes.old.size ≡ rules.now.pattern.size }
     requires line_in { number_of line < lines_beside rules.now.pattern.size line }
-    requires alive { IsAlive (line_rules rules.now.pattern) (has planes.old) }
+    requires alive { IsAlive (line_rules rules.now.pattern) (planes_have planes.old) }
     ensures visited { IsVisitOf W.bits rules.now.pattern line planes.old planes.new result }
     ensures unchanged { result ≡ None → planes.new ≡ planes.old }
     ensures further { IsFurther planes.old planes.new }

@@ -1,7 +1,7 @@
 //! What Light Up keeps beside planes, and the board that a search starts from.
 
 ghost use Rattle.std.specs.Prelude.{◌≡◌, ℕ, ◌*◌, ◌≤◌, length};
-ghost use Rattle.fields_core.specs.Common.{AreRowTables, AreTables, HasTables, IsLight, has, light_cells, light_rules};
+ghost use Rattle.fields_core.specs.Common.{AreRowTables, AreTables, HasTables, IsLight, planes_have, light_cells, light_rules};
 
 use crate::count::rules::CountRules;
 use crate::light_up::cells::{columns, rows};
@@ -28,7 +28,7 @@ impl<W: Word> LightTables<W> {
         requires few { light_cells puzzle.now * 2 ≤ length planes.old.takings }
         requires room { HasTables (light_cells puzzle.now) W.room self.old }
         ensures lawful { IsLight puzzle.now }
-        ensures start { has planes.new ≡ (light_rules puzzle.now).start }
+        ensures start { planes_have planes.new ≡ (light_rules puzzle.now).start }
         ensures size { planes.new.size ≡ puzzle.now.size }
         ensures steps { length planes.new.takings ≡ length planes.old.takings }
         ensures written { AreRowTables W.bits puzzle.now self.new }
@@ -48,7 +48,7 @@ impl<W: Word> LightTables<W> {
 
     /// Writes the words of the columns, by the board that a search of the puzzle starts from.
     fn write_columns(&mut self, planes: &Planes<W>, puzzle: &LightPuzzle)
-        requires start { has planes.now ≡ (light_rules puzzle.now).start }
+        requires start { planes_have planes.now ≡ (light_rules puzzle.now).start }
         requires size { planes.now.size ≡ puzzle.now.size }
         requires rows { AreRowTables W.bits puzzle.now self.old }
         requires room { HasTables (light_cells puzzle.now) W.room self.old }

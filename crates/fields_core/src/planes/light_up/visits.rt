@@ -1,7 +1,7 @@
 //! Visits of the houses of Light Up by the words that are kept of a puzzle.
 
 ghost use Rattle.std.specs.Prelude.{◌≡◌, ℕ, ◌+◌, ◌*◌, ◌<◌, ◌≤◌, ◌&&◌, ◌||◌, ◌==◌, true, IfNone, IfSome, is_some, length, map, nat_lt};
-ghost use Rattle.fields_core.specs.Common.{AreAroundAlong, AreIdleBut, ArePlanesAlive, ArePlanesOf, AreRunsVisited, AreSafe, AreSafeInColumns, AreTables, AreVisited, AreWhitesIdleBut, IsClash, ReachesAlong, ReachesMarked, word_along, count_below, has, has_bit, light_house_at, line_board, line_len, lines_beside, lit_house, lits_of_row, number_house, number_of, numbers_of_row, run_houses, run_lines};
+ghost use Rattle.fields_core.specs.Common.{AreAroundAlong, AreIdleBut, ArePlanesAlive, ArePlanesOf, AreRunsVisited, AreSafe, AreSafeInColumns, AreTables, AreVisited, AreWhitesIdleBut, IsClash, ReachesAlong, ReachesMarked, word_along, count_below, planes_have, has_bit, light_house_at, line_board, line_len, lines_beside, lit_house, lits_of_row, number_house, number_of, numbers_of_row, run_houses, run_lines};
 
 use crate::light_up::cells::columns;
 use crate::planes::light_up::tables::LightTables;
@@ -133,7 +133,7 @@ pub(crate) fn visit_numbers<W: Word>(
     requires planes { ArePlanesOf W.room puzzle.now planes.old }
     requires tables { AreTables W.bits puzzle.now tables.now }
     requires y_in { y < puzzle.now.size.h }
-    requires others { AreIdleBut puzzle.now (W.bits at) y (has planes.old) }
+    requires others { AreIdleBut puzzle.now (W.bits at) y (planes_have planes.old) }
     ensures { AreVisited (numbers_of_row puzzle.now y) planes.old planes.new result }
 {
     let own = tables.numbers[usize::from(y)];
@@ -221,11 +221,11 @@ impl<W: Word> LightTables<W> {
         requires tables { AreTables W.bits puzzle.now self.now }
         requires y_in { y < puzzle.now.size.h }
         requires some_in { (x : ℕ) → has_bit (W.bits some) x ≡ true → x < puzzle.now.size.w }
-        requires others { AreWhitesIdleBut puzzle.now (W.bits some) y (has planes.old) }
+        requires others { AreWhitesIdleBut puzzle.now (W.bits some) y (planes_have planes.old) }
         ensures visited { AreVisited (lits_of_row puzzle.now y) planes.old planes.new
             (is_some result) }
         ensures met { IfSome result (λ met.
-            AreSafeInColumns puzzle.now y (W.bits met) (has planes.new)) }
+            AreSafeInColumns puzzle.now y (W.bits met) (planes_have planes.new)) }
     {
         let w = columns(puzzle);
         let ones = planes.row(y, 1);

@@ -1,7 +1,7 @@
 //! Which numbers, runs and white cells of Light Up wait to be visited.
 
 ghost use Rattle.std.specs.Prelude.{◌≡◌, ◌<◌, ◌≤◌};
-ghost use Rattle.fields_core.specs.Common.{AreAlwaysRested, AreLightsRested, AreLightsWoken, AreLightsWokenSince, AreNumbersSettled, ArePlanesOf, AreRunLines, AreLightsSettled, AreSpread, AreThoseMet, IsClosedBut, Light, has, has_bit, light_cells, light_rules, lit_house, run_houses, run_lines, waiting_runs};
+ghost use Rattle.fields_core.specs.Common.{AreAlwaysRested, AreLightsRested, AreLightsWoken, AreLightsWokenSince, AreNumbersSettled, ArePlanesOf, AreRunLines, AreLightsSettled, AreSpread, AreThoseMet, IsClosedBut, Light, planes_have, has_bit, light_cells, light_rules, lit_house, run_houses, run_lines, waiting_runs};
 
 use gameid_core::LightPuzzle;
 use grid_core::{Planes, Touched, Word};
@@ -169,8 +169,8 @@ impl<W: Word> LightWaits<W> {
         from: Option<usize>,
     ) -> LightWaits<W>
         requires planes { ArePlanesOf W.room _puzzle.now planes.now }
-        requires closed_but { IsClosedBut (light_rules _puzzle.now) (has planes.now) from }
-        ensures { AreLightsRested W.bits _puzzle.now result (has planes.now) }
+        requires closed_but { IsClosedBut (light_rules _puzzle.now) (planes_have planes.now) from }
+        ensures { AreLightsRested W.bits _puzzle.now result (planes_have planes.now) }
     {
         let Some(place) = from else {
             return LightWaits::all();

@@ -1,7 +1,7 @@
 //! Visits of the lines of Tents on planes, one by one.
 
 ghost use Rattle.std.specs.Prelude.{◌<◌, ◌≡◌, ◌≤◌, false};
-ghost use Rattle.fields_core.specs.Common.{ArePlanesAlive, AreVisited, HasTouching, column_of_tents, has, lines_beside, number_of, row_of_tents};
+ghost use Rattle.fields_core.specs.Common.{ArePlanesAlive, AreVisited, HasTouching, column_of_tents, planes_have, lines_beside, number_of, row_of_tents};
 
 use crate::planes::visit::{Part, Parts, visit};
 use crate::tents::cells::{column_number, row_number};
@@ -51,7 +51,7 @@ pub(crate) fn visit_row<W: Word>(planes: &mut Planes<W>, puzzle: &TentsPuzzle, y
 #[inline(always)]
 pub(crate) fn are_apart<W: Word>(planes: &Planes<W>, line: Line) -> bool
     requires line_in { number_of line < lines_beside planes.now.size line }
-    ensures { result ≡ false → HasTouching planes.now.size (has planes.now) }
+    ensures { result ≡ false → HasTouching planes.now.size (planes_have planes.now) }
 {
     if planes.size().w() <= 8 {
         return true;

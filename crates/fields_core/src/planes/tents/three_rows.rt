@@ -2,7 +2,7 @@
 
 ghost use Rattle.std.specs.Prelude.{◌+◌, ◌<◌, ◌==◌, ◌≡◌, ◌≤◌, false, nat_lt, ℕ};
 ghost use Rattle.std.specs.List.{count_by};
-ghost use Rattle.fields_core.specs.Common.{AreBeside, IsNear, has, has_bit};
+ghost use Rattle.fields_core.specs.Common.{AreBeside, IsNear, planes_have, has_bit};
 
 use grid_core::{Planes, Word};
 
@@ -65,7 +65,7 @@ impl<W: Word> ThreeRows<W> {
 /// The cells of a row, and of the rows above and below it, that can be a one.
 pub(crate) fn ones_near<W: Word>(planes: &Planes<W>, y: u8) -> ThreeRows<W>
     requires y_in { y < planes.now.size.h }
-    ensures ones { IsNear W.bits planes.now.size (λ c. has planes.now c 1) y result }
+    ensures ones { IsNear W.bits planes.now.size (λ c. planes_have planes.now c 1) y result }
     ensures narrow { planes.now.size.w ≤ W.room }
 {
     let none = W::none();

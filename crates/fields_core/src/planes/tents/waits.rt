@@ -1,7 +1,7 @@
 //! Which houses of Tents wait to be visited.
 
 ghost use Rattle.std.specs.Prelude.{◌≡◌};
-ghost use Rattle.fields_core.specs.Common.{AreTentsRested, AreTentsSettled, AreTentsWoken, AreWaitingLines, Candidates, HasBoard, IsClosedBut, IsSuited, IsTents, Tents, has, tent_rules, waits_of};
+ghost use Rattle.fields_core.specs.Common.{AreTentsRested, AreTentsSettled, AreTentsWoken, AreWaitingLines, Candidates, HasBoard, IsClosedBut, IsSuited, IsTents, Tents, planes_have, tent_rules, waits_of};
 
 use gameid_core::TentsPuzzle;
 use grid_core::{Planes, Touched, Word};
@@ -53,8 +53,8 @@ impl<W: Word> TentWaits<W> {
     pub(crate) fn new(planes: &Planes<W>, puzzle: &TentsPuzzle, from: Option<usize>) -> TentWaits<W>
         requires lawful { IsTents puzzle.now }
         requires board { HasBoard (tent_rules puzzle.now) puzzle.now.size W.room planes.now }
-        requires closed_but { IsClosedBut (tent_rules puzzle.now) (has planes.now) from }
-        ensures { AreTentsRested W.bits puzzle.now result (has planes.now) }
+        requires closed_but { IsClosedBut (tent_rules puzzle.now) (planes_have planes.now) from }
+        ensures { AreTentsRested W.bits puzzle.now result (planes_have planes.now) }
     {
         let Some(place) = from else {
             return TentWaits::all();

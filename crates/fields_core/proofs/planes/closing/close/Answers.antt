@@ -1,18 +1,18 @@
-use Rattle.fields_core.proofs.Common.{Dead, IsClosing, Open, [], arith, has, max, refl, rules_of, swept_by, sym, true≢false, ◌+◌, ◌<◌, ◌∙◌}
+use Rattle.fields_core.proofs.Common.{Dead, IsClosing, Open, [], arith, planes_have, max, refl, rules_of, swept_by, sym, true≢false, ◌+◌, ◌<◌, ◌∙◌}
 use Rattle.engine_core.proofs.AroundLemmas.{closed-in, taken-dead, taken-open}
 use Rattle.fields_core.proofs.PlaneSweeps.{alive-cells, cells-alive, closed-dead, closed-open, sweeps-few, sweeps-fewer, sweeps-none, sweeps-turn}
 use Rattle.fields_core.proofs.planes.closing.close.Goals as goal
 use Rattle.fields_core.proofs.planes.closing.close.Goals.{Else-len-before, Then-len-before, Then-not-sweep}
 
 -- a sweep that leaves a cell without a value ends the closing
-dead : (g : _) (c : Then-not-sweep g) → IsClosing (rules_of (g.P.CountGame.counts c.args.puzzle.now)) (has c.args.planes.now)
-    (swept_by (rules_of (g.P.CountGame.counts c.args.puzzle.now)) (has c.closing.planes)) Dead [] (c.closing.sweeps + 1)
+dead : (g : _) (c : Then-not-sweep g) → IsClosing (rules_of (g.P.CountGame.counts c.args.puzzle.now)) (planes_have c.args.planes.now)
+    (swept_by (rules_of (g.P.CountGame.counts c.args.puzzle.now)) (planes_have c.closing.planes)) Dead [] (c.closing.sweeps + 1)
 dead g c = closed-dead _ _ _ _ c.requires.counted c.requires.board.cells c.requires.board.board.within
     c.closing.invariant.sweeps c.sweep.ensures.swept c.if-not-sweep.true
 
 -- and so does one that takes nothing
-shut : (g : _) (c : Then-len-before g) → IsClosing (rules_of (g.P.CountGame.counts c.args.puzzle.now)) (has c.args.planes.now)
-    (has c.sweep.new.planes) Open [] (max c.closing.sweeps 1)
+shut : (g : _) (c : Then-len-before g) → IsClosing (rules_of (g.P.CountGame.counts c.args.puzzle.now)) (planes_have c.args.planes.now)
+    (planes_have c.sweep.new.planes) Open [] (max c.closing.sweeps 1)
 shut g c = closed-open _ _ _ _ c.requires.counted c.requires.board.cells c.requires.board.board.within
     c.closing.invariant.sweeps c.sweep.ensures.swept c.if-not-sweep.false
     (sym c.len.ensures.len ∙ c.if-len-before.true ∙ c.len-before.ensures.len)

@@ -1,4 +1,4 @@
-use Rattle.fields_core.proofs.Common.{AreKept, has, rules_of, total}
+use Rattle.fields_core.proofs.Common.{AreKept, planes_have, rules_of, total}
 use Rattle.fields_core.proofs.PlaneSweeps.{AreSweepsOf}
 use Rattle.fields_core.proofs.planes.closing.close.Given as goal
 
@@ -10,4 +10,4 @@ invariant-closing g l = record {
 }
 
 abbrev pub decreases-closing : goal.decreases-closing
-decreases-closing g l = total (g.P.CountGame.counts l.puzzle).cells 2 (has l.planes)
+decreases-closing g l = total (g.P.CountGame.counts l.puzzle).cells 2 (planes_have l.planes)

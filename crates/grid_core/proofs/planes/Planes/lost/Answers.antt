@@ -1,5 +1,5 @@
 use Rattle.grid_core.proofs.Common.{arith, eq-eqb, eqb-true, false, length-map, refl, sym, taking_at, taking_of, true, true≢false, ◌∙◌, ◌≡◌}
-use Rattle.grid_core.specs.Planes.{has}
+use Rattle.grid_core.specs.Planes.{planes_have}
 use Rattle.grid_core.proofs.PlaneLemmas.{noted-more}
 use Rattle.grid_core.proofs.PlaneSteps.{line_room, taking_read}
 use Rattle.grid_core.proofs.TakingLemmas.{covered_since, takings-len}
@@ -43,14 +43,14 @@ pub returns-clause-zeros : goal.returns-clause-zeros
 returns-clause-zeros g c = λ cell on off.
     let t = c.loop-k-test.false in
     let e = c.loop-k.auto.k-end in
-    covered_since c.args.self.now.size.w (has c.args.self.now) c.args.self.now.takings c.args.len c.args.self.now.len cell 0 on off
+    covered_since c.args.self.now.size.w (planes_have c.args.self.now) c.args.self.now.takings c.args.len c.args.self.now.len cell 0 on off
     (λ k from lt is covered. c.loop-k.invariant.zeros k _ _ from (let less = rw (← c.self.view_is) at lt in omega arith) (eq-eqb _ 0 (sym is)) covered)
 
 pub returns-clause-ones : goal.returns-clause-ones
 returns-clause-ones g c = λ cell on off.
     let t = c.loop-k-test.false in
     let e = c.loop-k.auto.k-end in
-    covered_since c.args.self.now.size.w (has c.args.self.now) c.args.self.now.takings c.args.len c.args.self.now.len cell 1 on off
+    covered_since c.args.self.now.size.w (planes_have c.args.self.now) c.args.self.now.takings c.args.len c.args.self.now.len cell 1 on off
     (λ k from lt is covered. c.loop-k.invariant.ones k _ _ from (let less = rw (← c.self.view_is) at lt in omega arith) (rw (sym is) refl) covered)
 
 pub returns-clause-lawful : goal.returns-clause-lawful

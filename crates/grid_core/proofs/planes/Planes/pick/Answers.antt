@@ -1,4 +1,4 @@
-use Rattle.grid_core.proofs.Common.{and_parts, ap, arith, cells_of, has, pick, refl, sym, ℕ, ◌*◌, ◌<◌, ◌∙◌, ◌≡◌}
+use Rattle.grid_core.proofs.Common.{and_parts, ap, arith, plane_cells, planes_have, pick, refl, sym, ℕ, ◌*◌, ◌<◌, ◌∙◌, ◌≡◌}
 use Rattle.grid_core.proofs.RegionLemmas.{few_cells}
 use Rattle.grid_core.proofs.PlaneLemmas.{place-in}
 use Rattle.grid_core.proofs.PlaneSteps.{IsOpenRow, pick-row_none, pick-row_some}
@@ -46,5 +46,5 @@ returns g c =
     let p = c.args.self.now in
     let end : c.h-y-end.result ≡ p.size.h = rw (c.size-size.ensures.value) at c.h-y-end.ensures.value in
     let last : c.loop-y.y ≡ p.size.h = (let b = c.loop-y.auto.y-end in let e = c.loop-y-test.false in omega arith) in
-    let all : c.loop-y.y * p.size.w ≡ cells_of p = rw last (omega arith) in
-    sym c.loop-y.invariant ∙ ap (λ (n : ℕ). pick n 2 (has p)) all
+    let all : c.loop-y.y * p.size.w ≡ plane_cells p = rw last (omega arith) in
+    sym c.loop-y.invariant ∙ ap (λ (n : ℕ). pick n 2 (planes_have p)) all

@@ -1,4 +1,4 @@
-use Rattle.grid_core.proofs.Common.{ArePlanes, arith, has, layers_of, no_taking, sym, turned_by, ◌-◌, ◌∙◌}
+use Rattle.grid_core.proofs.Common.{ArePlanes, arith, planes_have, layers_of, no_taking, sym, turned_by, ◌-◌, ◌∙◌}
 use Rattle.grid_core.proofs.PlaneLemmas.{IsPutBack}
 use Rattle.grid_core.proofs.PlaneSteps.{undo_step, room_at, last_read}
 use Rattle.grid_core.proofs.TakingLemmas.{put_back-none}
@@ -47,13 +47,13 @@ returns g c =
     let from = c.args.self.now in
     let are : ArePlanes g.W.Word.room from = rw (← c.self.view_is) c.self.invariant in
     let falls = are.takings.falls in
-    let here = sym (put_back-none (turned_by to.size.w) no_taking (has to) to.takings c.args.len to.len (omega arith)) ∙ i.back c.args.len (omega arith) in
+    let here = sym (put_back-none (turned_by to.size.w) no_taking (planes_have to) to.takings c.args.len to.len (omega arith)) ∙ i.back c.args.len (omega arith) in
     record {
       same_size = i.same_size;
       same_room = i.same_room;
       here = here;
       len = omega (arith, i.low);
       regained = rw here (λ k v on. falls c.args.len from.len c.requires (omega arith) k v
-          (rw (put_back-none (turned_by from.size.w) no_taking (has from) from.takings from.len from.len (omega arith)) on));
+          (rw (put_back-none (turned_by from.size.w) no_taking (planes_have from) from.takings from.len from.len (omega arith)) on));
       back = λ m le. i.back m le;
     }

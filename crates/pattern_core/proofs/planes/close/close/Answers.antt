@@ -1,5 +1,5 @@
 use Rattle.pattern_core.proofs.Common.{IsClosing, IsWithin, [], after, arith, closing-dead, closing-open, further-more, further-none, line_house, length-append, line_rules, line_rules-lawful, refl, room, running-alive, running-first, running-turn, true, true≢false, waiting, within_inside, ◌*◌, ◌++◌, ◌<◌, ◌∙◌, ◌∷◌, ◌≡◌}
-use Rattle.grid_core.specs.Planes.{has, lines_beside, number_of}
+use Rattle.grid_core.specs.Planes.{planes_have, lines_beside, number_of}
 use Rattle.engine_core.specs.declared.mode.Closing.TheVariants.{Dead, Open}
 use Rattle.engine_core.proofs.AroundLemmas.{closed-in, taken-dead, taken-open}
 use Rattle.pattern_core.proofs.WaitingLines.{begins-alive, lines-within, lines-woken, none-waits, waits-line}
@@ -9,7 +9,7 @@ use Rattle.pattern_core.proofs.planes.close.close.Goals.{In-Some, In_default, In
 
 pub loop-line-init : goal.loop-line-init
 loop-line-init g c =
-    let pat = c.args.rules.now.pattern in let K = has c.args.planes.now in
+    let pat = c.args.rules.now.pattern in let K = planes_have c.args.planes.now in
     record {
       visits = [];
       counted = refl;
@@ -30,18 +30,18 @@ waits : (g : _) (c : In-Some g) → waiting g.W.Word.bits c.args.rules.now.patte
 waits g c = waits-line g.W.Word.bits c.args.rules.now.pattern.size c.loop-line.waits c.in-Some.line (line-in g c) ∙ (rw c.in-Some.is at c.next.ensures).0
 
 -- the boards have no other cells and values than the puzzle's
-cells : (g : _) (c : In-Some g) → IsWithin (c.args.rules.now.pattern.size.w * c.args.rules.now.pattern.size.h) 2 (has c.loop-line.planes)
-cells g c = within_inside _ 2 (has c.loop-line.planes) (has c.args.planes.now) c.first-waits.ensures.fits.cells c.loop-line.invariant.further.inside
+cells : (g : _) (c : In-Some g) → IsWithin (c.args.rules.now.pattern.size.w * c.args.rules.now.pattern.size.h) 2 (planes_have c.loop-line.planes)
+cells g c = within_inside _ 2 (planes_have c.loop-line.planes) (planes_have c.args.planes.now) c.first-waits.ensures.fits.cells c.loop-line.invariant.further.inside
 
 -- a visit that would leave a cell without a value ends the closing
 dead : (g : _) (c : In_default-visit g) → number_of c.in-Some.line < lines_beside c.args.rules.now.pattern.size c.in-Some.line
     → waiting g.W.Word.bits c.args.rules.now.pattern.size c.loop-line.waits (line_house c.args.rules.now.pattern.size c.in-Some.line) ≡ true
-    → IsClosing (line_rules c.args.rules.now.pattern) (has c.args.planes.now)
-    (after (line_rules c.args.rules.now.pattern) (line_house c.args.rules.now.pattern.size c.in-Some.line) (has c.loop-line.planes)) Dead
+    → IsClosing (line_rules c.args.rules.now.pattern) (planes_have c.args.planes.now)
+    (after (line_rules c.args.rules.now.pattern) (line_house c.args.rules.now.pattern.size c.in-Some.line) (planes_have c.loop-line.planes)) Dead
     (c.loop-line.invariant.visits ++ line_house c.args.rules.now.pattern.size c.in-Some.line ∷ []) 0
 dead g c lt on =
     let pat = c.args.rules.now.pattern in let i = c.loop-line.invariant in
-    closing-dead (line_rules pat) (line_rules-lawful pat c.args.rules.now.extent) (has c.args.planes.now) i.visits (has c.loop-line.planes) _ _
+    closing-dead (line_rules pat) (line_rules-lawful pat c.args.rules.now.extent) (planes_have c.args.planes.now) i.visits (planes_have c.loop-line.planes) _ _
     (line_house pat.size c.in-Some.line) refl c.first-waits.ensures.fits.cells i.running (house-in pat.size c.in-Some.line lt) on refl
     (rw c.in_default-visit.is at c.visit.ensures.visited)
 
@@ -67,24 +67,24 @@ loop-line-preserved g c =
     let at = (goal.at.loop-line-preserved g c).In-Some in let pat = c.args.rules.now.pattern in
     let i = c.loop-line.invariant in let line = c.in-Some.line in
     let h = line_house pat.size line in let lt = line-in g at in
-    let K = has c.loop-line.planes in let K' = has c.visit.new.planes in
+    let K = planes_have c.loop-line.planes in let K' = planes_have c.visit.new.planes in
     let v = rw c.in-Some-visit.is at c.visit.ensures.visited in let lost = g.W.Word.bits c.in-Some-visit.lost in
     let woken = lines-woken pat line lt K K' lost v.2 g.W.Word.bits c.loop-line.waits c.with_crossing-waits.result c.with_crossing-waits.ensures in
     record {
       visits = i.visits ++ h ∷ [];
       counted = omega (arith, length-append i.visits (h ∷ []), i.counted);
-      running = running-turn (line_rules pat) (line_rules-lawful pat c.args.rules.now.extent) (has c.args.planes.now) i.visits K K' _ _ h i.running (house-in pat.size line lt)
+      running = running-turn (line_rules pat) (line_rules-lawful pat c.args.rules.now.extent) (planes_have c.args.planes.now) i.visits K K' _ _ h i.running (house-in pat.size line lt)
           (waits g at) (cells g at) v.0 woken v.1;
       within = lines-within pat line lt K K' lost v.2 g.W.Word.bits c.loop-line.waits c.with_crossing-waits.result c.with_crossing-waits.ensures i.within;
       further = further-more c.args.planes.now c.loop-line.planes c.visit.new.planes i.further c.visit.ensures.further;
     }
 
 -- and so it ends where no line waits
-shut : (g : _) (c : In_default g) → IsClosing (line_rules c.args.rules.now.pattern) (has c.args.planes.now) (has c.loop-line.planes) Open c.loop-line.invariant.visits 0
+shut : (g : _) (c : In_default g) → IsClosing (line_rules c.args.rules.now.pattern) (planes_have c.args.planes.now) (planes_have c.loop-line.planes) Open c.loop-line.invariant.visits 0
 shut g c =
     let pat = c.args.rules.now.pattern in let i = c.loop-line.invariant in
     let fits = c.first-waits.ensures.fits in
-    closing-open (line_rules pat) (line_rules-lawful pat c.args.rules.now.extent) (has c.args.planes.now) i.visits (has c.loop-line.planes) _ refl fits.cells i.running
+    closing-open (line_rules pat) (line_rules-lawful pat c.args.rules.now.extent) (planes_have c.args.planes.now) i.visits (planes_have c.loop-line.planes) _ refl fits.cells i.running
     (none-waits g.W.Word.bits pat.size c.loop-line.waits fits.narrow fits.low (rw c.in_default.is at c.next.ensures))
 
 pub returns-clause-taken : goal.returns-clause-taken

@@ -1,5 +1,5 @@
 use Rattle.pattern_core.proofs.Common.{AreLinesWithin, IsRunning, List, length, line_rules, waiting, ℕ, ◌-◌, ◌≡◌}
-use Rattle.grid_core.specs.Planes.{IsFurther, has}
+use Rattle.grid_core.specs.Planes.{IsFurther, planes_have}
 use Rattle.pattern_core.proofs.planes.close.close.Given as goal
 
 abbrev pub invariant-loop-line : goal.invariant-loop-line
@@ -8,7 +8,7 @@ invariant-loop-line g l =
     record {
       visits : List ℕ;
       counted : length visits ≡ l.turns;
-      running : IsRunning (line_rules pat) (has l.fn.planes) visits (has l.planes) (waiting g.W.Word.bits pat.size l.waits);
+      running : IsRunning (line_rules pat) (planes_have l.fn.planes) visits (planes_have l.planes) (waiting g.W.Word.bits pat.size l.waits);
       within : AreLinesWithin g.W.Word.bits pat.size l.waits;
       further : IsFurther l.fn.planes l.planes;
     }

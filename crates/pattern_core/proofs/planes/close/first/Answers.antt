@@ -1,5 +1,5 @@
 use Rattle.pattern_core.proofs.Common.{Extent, HasLineRoom, Pattern, ap, ℕ, ◌≡◌}
-use Rattle.grid_core.specs.Planes.{ArePlanes, Layers, has}
+use Rattle.grid_core.specs.Planes.{ArePlanes, Layers, planes_have}
 use Rattle.pattern_core.proofs.LineTakings.{cells-in}
 use Rattle.pattern_core.proofs.WaitingLines.{place-first}
 use Rattle.pattern_core.proofs.planes.close.first.Goals as goal
@@ -18,7 +18,7 @@ returns-clause-rested g c =
     (rw c.requires.size at c.size-size.ensures.lawful.lawful) wide c.split-y.ensures.column c.split-y.ensures.row c.none.ensures c.with.ensures c.with-2.ensures
     c.split-y.ensures.column_in (rw c.in-Some.is at c.requires.closed_but)
 
-fits : (room : ℕ) (p : Pattern) (planes : Layers) → ArePlanes room planes → planes.size ≡ p.size → HasLineRoom room p (has planes)
+fits : (room : ℕ) (p : Pattern) (planes : Layers) → ArePlanes room planes → planes.size ≡ p.size → HasLineRoom room p (planes_have planes)
 fits room p planes are same = record { narrow = rw same at are.narrow; low = rw same at are.low; cells = cells-in are same }
 
 pub returns-clause-fits : goal.returns-clause-fits

@@ -1,5 +1,5 @@
 use Rattle.engine_core.proofs.Common.{IsQueuedAround, Some, [], and_parts, ap, arith, cases_Bool, false, from_bool, has, inl, inr, is_waiting, lt-ltb, ltb, not, refl, sym, true, true≢false, ℕ, ◌&&◌, ◌+◌, ◌<◌, ◌||◌, ◌∙◌, ◌≡◌, ◌≤◌}
-use Rattle.engine_core.proofs.AroundLemmas.{IsStriking, amid-few, amid-first, around-in, exact-end, queued-turn, rest-around, steps-fall, still-alive, striking-next, striking-turn}
+use Rattle.engine_core.proofs.AroundLemmas.{IsSweepStriking, amid-few, amid-first, around-in, exact-end, queued-turn, rest-around, steps-fall, still-alive, striking-next, striking-turn}
 use Rattle.engine_core.proofs.ListLemmas.{room, room-more, room-same, running-first}
 use Rattle.engine_core.proofs.QueueLemmas.{IsBoardOf-same, within_of}
 use Rattle.engine_core.proofs.closing.closer.Closer.run.Goals as goal
@@ -59,7 +59,7 @@ here : (g : _) (c : In-Some g) {more : ℕ}
     → (c.loop-house.dead && (c.by_queue-by_queue.result || ltb c.in-Some.house c.loop-house.from)) ≡ false
     → more ≡ from_bool (c.by_queue-by_queue.result || ltb c.in-Some.house c.loop-house.from)
     → (g.R.Rules.system c.args.rules.now).by_queue ≡ false
-    → IsStriking (g.R.Rules.system c.args.rules.now) (has c.args.self.now.board) (c.loop-house.turns + more) c.in-Some.house
+    → IsSweepStriking (g.R.Rules.system c.args.rules.now) (has c.args.self.now.board) (c.loop-house.turns + more) c.in-Some.house
     (has c.loop-house.self.board) (is_waiting c.loop-house.self.waits)
     (c.loop-house.struck && not (ltb c.in-Some.house c.loop-house.from))
 here g c {more} on counts sweeps =

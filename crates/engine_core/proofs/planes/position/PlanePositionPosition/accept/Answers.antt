@@ -1,11 +1,11 @@
 use Rattle.engine_core.proofs.Common.{grid_of, layers_in, ◌≡◌}
-use Rattle.grid_core.specs.Planes.{cells_of, has}
+use Rattle.grid_core.specs.Planes.{plane_cells, planes_have}
 use Rattle.engine_core.proofs.PlaneSteps.{walks-closed, walks-long}
 use Rattle.engine_core.proofs.planes.position.PlanePositionPosition.accept.Goals as goal
 use Rattle.engine_core.proofs.planes.position.PlanePositionPosition.accept.Goals.{Joined-self, in-Short, in-Long}
 
 -- the grid that was written
-written : (g : _) (c : Joined-self g) → c.match-self.grid ≡ grid_of (cells_of (layers_in c.self.inside.planes)) 2 (has (layers_in c.self.inside.planes))
+written : (g : _) (c : Joined-self g) → c.match-self.grid ≡ grid_of (plane_cells (layers_in c.self.inside.planes)) 2 (planes_have (layers_in c.self.inside.planes))
 written g c = elim c.match-self.branch [
   | in-Short w ↦ rw (w.in-Short.is, w.grid-is) w.write_grid.ensures
   | in-Long w ↦ rw (w.in-Long.is, w.grid-is) w.write_grid-in-Long.ensures

@@ -1,4 +1,4 @@
-use Rattle.fields_core.proofs.Common.{CountHouse, IsRowOf, List, and_parts, arith, has, has_bit, is_numbered, ltb-true, number_house, sym, true, ℕ, ◌*◌, ◌+◌, ◌<◌, ◌∙◌, ◌≡◌}
+use Rattle.fields_core.proofs.Common.{CountHouse, IsRowOf, List, and_parts, arith, planes_have, has_bit, is_numbered, ltb-true, number_house, sym, true, ℕ, ◌*◌, ◌+◌, ◌<◌, ◌∙◌, ◌≡◌}
 use Rattle.fields_core.proofs.IdleLemmas.{fewer-on, from-on, from-off, passed-all, passed-broken, passed-first, passed-next, rest-off, rest-on}
 use Rattle.fields_core.proofs.LightReach.{numbers-all, numbers-both}
 use Rattle.fields_core.proofs.CellLemmas.{rows-read}
@@ -20,7 +20,7 @@ loop-own-init g c =
     let h = (goal.at.loop-own-init g c).After-both-left in
     record {
       passed = passed-first (houses g h) c.requires.planes.alive (λ x on. own-in g h x (and_parts _ _ (sym (c.both-left.ensures x) ∙ on)).0)
-          (numbers-both c.args.puzzle.now c.args.y _ _ _ (has c.args.planes.now) (own g h) c.requires.others c.both-left.ensures);
+          (numbers-both c.args.puzzle.now c.args.y _ _ _ (planes_have c.args.planes.now) (own g h) c.requires.others c.both-left.ensures);
     }
 
 pub overflow_cast-x : goal.overflow_cast-x
@@ -50,7 +50,7 @@ loop-own-preserved-then-len g c =
     record {
       passed = passed-next (houses g h) c.loop-own.invariant.passed c.lowest-x.ensures c.visit_number.ensures c.if-not-visit_number.false _
           (λ k on. let w = behind g a k on in (w.0, own-in g h k w.1))
-          (λ k high lt off. numbers-all c.args.puzzle.now c.args.y _ (has c.visit_number.new.planes) (own g h) k lt
+          (λ k high lt off. numbers-all c.args.puzzle.now c.args.y _ (planes_have c.visit_number.new.planes) (own g h) k lt
           (from-off (has_bit (g.W.Word.bits c.index-own.result.now)) _ _ c.lowest-x.result c.all.ensures c.but-left.ensures high off));
     }
 

@@ -1,4 +1,4 @@
-use Rattle.fields_core.proofs.Common.{ArePlanes, Extent, ap, arith, further-more, has, refl, ◌∙◌, ◌≡◌}
+use Rattle.fields_core.proofs.Common.{ArePlanes, Extent, ap, arith, further-more, planes_have, refl, ◌∙◌, ◌≡◌}
 use Rattle.fields_core.proofs.TentTreeWords.{taken-is, zeros-taken}
 use Rattle.fields_core.proofs.planes.tents.trees.take_beside.Goals as goal
 
@@ -7,7 +7,7 @@ returns-clause-left g c = λ passes is places_in.
     let size = c.args.planes.now.size in let are : ArePlanes g.W.Word.room c.args.planes.now = c.size.ensures.lawful in
     let h_is : c.h-last.result ≡ size.h = c.h-last.ensures.value ∙ ap (λ (s : Extent). s.h) c.size.ensures.value in
     let first : c.take.new.self.size.w ≡ size.w = ap (λ (s : Extent). s.w) c.take.ensures.further.same_size in
-    zeros-taken c.saturating_sub.result c.args.y c.min.result _ _ _ _ (has c.args.planes.now)
+    zeros-taken c.saturating_sub.result c.args.y c.min.result _ _ _ _ (planes_have c.args.planes.now)
     c.take.ensures.left c.take-2.ensures.left c.take-3.ensures.left
     first (ap (λ (s : Extent). s.w) c.take-2.ensures.further.same_size ∙ first)
     (taken-is g.W.Word.bits g.W.Word.room size passes c.args.y c.saturating_sub.result c.min.result c.args.near _ _ _ _

@@ -1,4 +1,4 @@
-use Rattle.fields_core.proofs.Common.{Bool, Extent, IsFieldOf, IsNear, IsRowOf, Tents, and_parts, arith, cases_Bool, common_steps, fun_ext, has, has_bit, is_beside, ltb-true, map, not, subst, sym, tree, wants_tent, without_zeros, ℕ, ◌&&◌, ◌∙◌, ◌≡◌}
+use Rattle.fields_core.proofs.Common.{Bool, Extent, IsFieldOf, IsNear, IsRowOf, Tents, and_parts, arith, cases_Bool, common_steps, fun_ext, planes_have, has_bit, is_beside, ltb-true, map, not, subst, sym, tree, wants_tent, without_zeros, ℕ, ◌&&◌, ◌∙◌, ◌≡◌}
 use Rattle.fields_core.proofs.TentTreeBoards.{row-dead, row-visited}
 use Rattle.fields_core.proofs.CellLemmas.{row-read}
 use Rattle.fields_core.proofs.planes.tents.trees.visit_trees.Goals as goal
@@ -6,11 +6,11 @@ use Rattle.fields_core.proofs.planes.tents.trees.visit_trees.Goals.{After-index-
 
 module _ (g : _) (c : After-index-trees-from g) (p : Tents) (field : IsFieldOf g.W.Word.room p c.args.planes.now (map g.W.Word.bits c.args.trees.now)) where
   -- the cells that can have a tent have no tree
-  same : ◌≡◌ {A = ℕ → Bool} (λ d. has c.args.planes.now d 1) (λ d. not (tree p d) && has c.args.planes.now d 1)
+  same : ◌≡◌ {A = ℕ → Bool} (λ d. planes_have c.args.planes.now d 1) (λ d. not (tree p d) && planes_have c.args.planes.now d 1)
   same = fun_ext λ d. grind (arith, common_steps, cases_Bool (tree p d), field.bare d)
 
   abbrev CanHave : Extent → Type 0
-  CanHave s = IsNear g.W.Word.bits s (λ d. not (tree p d) && has c.args.planes.now d 1) c.args.y c.ones_near-ones.result
+  CanHave s = IsNear g.W.Word.bits s (λ d. not (tree p d) && planes_have c.args.planes.now d 1) c.args.y c.ones_near-ones.result
 
   pub ones-of : CanHave c.args.planes.now.size
   ones-of = subst (λ (t : ℕ → Bool). IsNear g.W.Word.bits c.args.planes.now.size t c.args.y c.ones_near-ones.result) same c.ones_near-ones.ensures.ones
@@ -40,7 +40,7 @@ returns g c = λ p field.
     _ _ (sym c.is_some.ensures ∙ c.if-is_some.false)
     (λ x lt. c.just_one.ensures p.size _ c.args.y x field.narrow lt (ones g w p field))
     c.both.ensures
-    (subst (λ (s : Extent). has c.take_beside.new.planes ≡ without_zeros (λ d. (not (tree p d) && has c.args.planes.now d 1) && is_beside s c.args.y (has_bit (g.W.Word.bits c.both.result)) s.w d) (has c.args.planes.now))
+    (subst (λ (s : Extent). planes_have c.take_beside.new.planes ≡ without_zeros (λ d. (not (tree p d) && planes_have c.args.planes.now d 1) && is_beside s c.args.y (has_bit (g.W.Word.bits c.both.result)) s.w d) (planes_have c.args.planes.now))
     field.size (c.take_beside.ensures.left _ (ones-of g w p field) (λ x on.
     rw (field.size) (ltb-true _ _ (and_parts _ _ (sym (trees g w p field x) ∙ (and_parts _ _ (sym (c.both.ensures x) ∙ on)).0)).0))))
     c.take_beside.ensures.further

@@ -1,4 +1,4 @@
-use Rattle.fields_core.proofs.Common.{ArePlanesOf, AreSafeInColumns, AreVisited, AreWhitesIdleBut, IsRowOf, ℕ, and_parts, ap, arith, cases_Bool, has, has_bit, houses_below, inl, inr, light_cells, lit_house, lits_of_row, lt-ltb, ltb-true, not, or_cases, or_parts, place-in, refl, sym, true, true≢false, white, ◌*◌, ◌+◌, ◌<◌, ◌∙◌, ◌≡◌, ◌≤◌}
+use Rattle.fields_core.proofs.Common.{ArePlanesOf, AreSafeInColumns, AreVisited, AreWhitesIdleBut, IsRowOf, ℕ, and_parts, ap, arith, cases_Bool, planes_have, has_bit, houses_below, inl, inr, light_cells, lit_house, lits_of_row, lt-ltb, ltb-true, not, or_cases, or_parts, place-in, refl, sym, true, true≢false, white, ◌*◌, ◌+◌, ◌<◌, ◌∙◌, ◌≡◌, ◌≤◌}
 use Rattle.fields_core.proofs.IdleLemmas.{visited-skip}
 use Rattle.fields_core.proofs.LightRuleLemmas.{light-board}
 use Rattle.fields_core.proofs.LightSafeCells.{joined-down, safe-moved}
@@ -28,7 +28,7 @@ module _ (g : _) (c : After-whites-some g) where
   of-now = planes-next c.requires.ready.planes_of c.loop-y.invariant.visited.further c.loop-y.invariant.visited.alive
 
   -- the cells of the row that are passed
-  pub passed : AreSafeInColumns c.args.puzzle.now c.loop-y.y (g.W.Word.bits c.both-above.result) (has c.loop-y.planes)
+  pub passed : AreSafeInColumns c.args.puzzle.now c.loop-y.y (g.W.Word.bits c.both-above.result) (planes_have c.loop-y.planes)
   passed x on =
       let p = c.args.puzzle.now in
       let w = and_parts _ _ (sym (c.both-above.ensures x) ∙ on) in
@@ -39,7 +39,7 @@ module _ (g : _) (c : After-whites-some g) where
       (column-white-start p (v.0 * p.size.w + x) v.2.one v.2.one_in) (rw at at is_white)) v.2)
 
   -- a cell of the row that is not looked at
-  pub idle : AreWhitesIdleBut c.args.puzzle.now (g.W.Word.bits c.whites-some.result) c.loop-y.y (has c.loop-y.planes)
+  pub idle : AreWhitesIdleBut c.args.puzzle.now (g.W.Word.bits c.whites-some.result) c.loop-y.y (planes_have c.loop-y.planes)
   idle x lt off = elim (cases_Bool (has_bit (g.W.Word.bits c.but.result) x)) [
     | inl left ↦
         let p = c.args.puzzle.now in let lines = or_parts _ _ (second-off left (sym (c.whites-some.ensures x) ∙ off)) in
@@ -48,7 +48,7 @@ module _ (g : _) (c : After-whites-some g) where
         (away-from g.W.Word.bits p _ c.requires.ready.planes_of.lawful y-in lt (λ on. true≢false (sym on ∙ lines.0)) (λ k k_in on column joined. true≢false (sym column ∙ lines.1))))
     | inr gone ↦ elim (cases_Bool (has_bit (g.W.Word.bits c.both-above.result) x)) [
       | inl on ↦ column-safe _ of-now.lawful (planes-full c.args.puzzle.now c.loop-y.planes of-now.size of-now.alive) (passed x on)
-      | inr out ↦ black-idle c.args.puzzle.now _ (has c.loop-y.planes) (sym (whites x ∙ rw (lt-ltb _ _ lt) refl)
+      | inr out ↦ black-idle c.args.puzzle.now _ (planes_have c.loop-y.planes) (sym (whites x ∙ rw (lt-ltb _ _ lt) refl)
           ∙ first-off (ap not out) (sym (c.but.ensures x) ∙ gone))
     ]
   ]
@@ -110,4 +110,4 @@ returns-clause-ready g c = λ _.
     let p = c.args.puzzle.now in let r = c.requires.ready in
     let of = planes-next r.planes_of visited.further visited.alive in
     let rested = c.wake.ensures p c.args.planes.now of r.planes_of (sym c.len-len.ensures.len) visited.further r.rested in
-    ready-next r visited.further visited.alive _ refl (c.settle_whites.ensures p (has c.loop-y.planes) rested (lits-done p r.planes_of visited))
+    ready-next r visited.further visited.alive _ refl (c.settle_whites.ensures p (planes_have c.loop-y.planes) rested (lits-done p r.planes_of visited))

@@ -1,4 +1,4 @@
-use Rattle.fields_core.proofs.Common.{Bool, and_parts, arith, false, has, has_bit, lt-ltb, ltb, ltb-true, numbers_of_row, refl, sym, true, ℕ, ◌&&◌, ◌<◌, ◌∙◌, ◌≡◌}
+use Rattle.fields_core.proofs.Common.{Bool, and_parts, arith, false, planes_have, has_bit, lt-ltb, ltb, ltb-true, numbers_of_row, refl, sym, true, ℕ, ◌&&◌, ◌<◌, ◌∙◌, ◌≡◌}
 use Rattle.fields_core.proofs.IdleLemmas.{fewer-on, from-on, from-off, passed-all, passed-broken, passed-first, passed-next, rest-off, rest-on}
 use Rattle.fields_core.proofs.LightSweeps.{planes-next, ready-next}
 use Rattle.fields_core.proofs.planes.light_up.light_notes.LightNotes.sweep_numbers.Goals as goal
@@ -47,7 +47,7 @@ loop-left-preserved-then-len g c =
           (λ k on. let w = rest-on least without k on in (w.0, passed.inside k w.1))
           (λ k high lt off. rw same (passed.idle k (omega (arith, high, passed.behind c.lowest-y.result least.has)) lt (rest-off least without high off)));
       ready = ready-next i.ready visited.further visited.alive _ refl
-          (c.settle_numbers.ensures p (has c.visit_numbers.new.planes) i.ready.planes_of.low rested (rw (← same) at (sym (visited.left c.if-not-visit_numbers.false))));
+          (c.settle_numbers.ensures p (planes_have c.visit_numbers.new.planes) i.ready.planes_of.low rested (rw (← same) at (sym (visited.left c.if-not-visit_numbers.false))));
       kept = i.kept;
     }
 

@@ -1,4 +1,4 @@
-use Rattle.fields_core.proofs.Common.{AreVisited, Light, RunKind, and_parts, has, houses_below, light_cells, lt-ltb, ltb-true, refl, run_houses, run_lines, sym, true, ℕ, ◌∙◌, ◌≤◌}
+use Rattle.fields_core.proofs.Common.{AreVisited, Light, RunKind, and_parts, planes_have, houses_below, light_cells, lt-ltb, ltb-true, refl, run_houses, run_lines, sym, true, ℕ, ◌∙◌, ◌≤◌}
 use Rattle.fields_core.specs.declared.planes.light_up.waits.RunKind.TheVariants.{Rows, Columns}
 use Rattle.fields_core.proofs.IdleLemmas.{fewer-on, passed-all, passed-broken, passed-first, rest-on}
 use Rattle.fields_core.proofs.HouseOrder.{quiet-next, singles-quiet}
@@ -58,4 +58,4 @@ returns-clause-ready g c = λ _.
     let p = c.args.puzzle.now in let r = c.requires.ready in
     let of = planes-next r.planes_of visited.further visited.alive in
     let rested = c.wake.ensures p c.args.planes.now of r.planes_of (sym c.len-len.ensures.len) visited.further r.rested in
-    ready-next r visited.further visited.alive _ refl (c.settle_runs.ensures p (has c.loop-left.planes) rested (runs-done p c.args.kind r.planes_of visited))
+    ready-next r visited.further visited.alive _ refl (c.settle_runs.ensures p (planes_have c.loop-left.planes) rested (runs-done p c.args.kind r.planes_of visited))

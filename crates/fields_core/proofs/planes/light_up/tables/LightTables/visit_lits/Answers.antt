@@ -1,4 +1,4 @@
-use Rattle.fields_core.proofs.Common.{AreIdle, ArePlanesOf, AreSafe, CountHouse, IsColumnRun, IsRowRun, List, and-true, and_parts, arith, cases_Bool, eqb, eqb-true, false, has, has_bit, inl, inr, joined_in_column, joined_in_row, light_cells, lit_house, not, or_cases, refl, sym, true, true≢false, ℕ, ◌&&◌, ◌*◌, ◌+◌, ◌<◌, ◌∙◌, ◌≡◌}
+use Rattle.fields_core.proofs.Common.{AreIdle, ArePlanesOf, AreSafe, CountHouse, IsColumnRun, IsRowRun, List, and-true, and_parts, arith, cases_Bool, eqb, eqb-true, false, planes_have, has_bit, inl, inr, joined_in_column, joined_in_row, light_cells, lit_house, not, or_cases, refl, sym, true, true≢false, ℕ, ◌&&◌, ◌*◌, ◌+◌, ◌<◌, ◌∙◌, ◌≡◌}
 use Rattle.fields_core.proofs.IdleLemmas.{fewer-on, passed-all, passed-broken, passed-first, passed-next, rest-off, rest-on, visited-idle}
 use Rattle.fields_core.proofs.LightSafeCells.{column-line, row-line, row-moved, table-read}
 use Rattle.fields_core.proofs.LightSweeps.{column-safe, lit-all, lit-kept, lit-stays, lits-safe, planes-full, planes-next, row-safe}
@@ -20,7 +20,7 @@ module _ (g : _) (c : After-without_lowest-left g) where
   pub on : (k : ℕ) → has_bit (g.W.Word.bits c.without_lowest-left.result) k ≡ true → (c.lowest-x.result < k) × (k < c.args.puzzle.now.size.w)
   on k there = let w = rest-on c.lowest-x.ensures without k there in (w.0, c.loop-ones.invariant.passed.inside k w.1)
 
-  pub off : (k : ℕ) → c.lowest-x.result < k → k < c.args.puzzle.now.size.w → has_bit (g.W.Word.bits c.without_lowest-left.result) k ≡ false → AreIdle (houses k) (has c.loop-ones.planes)
+  pub off : (k : ℕ) → c.lowest-x.result < k → k < c.args.puzzle.now.size.w → has_bit (g.W.Word.bits c.without_lowest-left.result) k ≡ false → AreIdle (houses k) (planes_have c.loop-ones.planes)
   off k high lt gone =
       let passed = c.loop-ones.invariant.passed in
       passed.idle k (omega (arith, high, passed.behind c.lowest-x.result c.lowest-x.ensures.has)) lt (rest-off c.lowest-x.ensures without high gone)
@@ -28,7 +28,7 @@ module _ (g : _) (c : After-without_lowest-left g) where
   pub of : ArePlanesOf g.W.Word.room c.args.puzzle.now c.loop-ones.planes
   of = let v = c.loop-ones.invariant.passed.visited in planes-next c.requires.planes v.further v.alive
 
-  pub still : (k : ℕ) → k < c.args.puzzle.now.size.w → AreIdle (houses k) (has c.args.planes.now) → AreIdle (houses k) (has c.loop-ones.planes)
+  pub still : (k : ℕ) → k < c.args.puzzle.now.size.w → AreIdle (houses k) (planes_have c.args.planes.now) → AreIdle (houses k) (planes_have c.loop-ones.planes)
   still k lt idle =
       let passed = c.loop-ones.invariant.passed in
       lit-stays c.requires.planes passed.line_in c.requires.y_in lt passed.visited idle
@@ -41,20 +41,20 @@ module _ (g : _) (c : After-is_safe g) (x_in : c.lowest-x.result < c.args.puzzle
       c.requires.y_in x_in (rw (c.from.ensures, c.columns-w.ensures.value) refl) c.index-run.ensures
 
   -- where the run is passed, the houses of its cells are idle
-  safe : c.is_safe.result ≡ true → AreSafe (joined_in_row c.args.puzzle.now (c.args.y * c.args.puzzle.now.size.w + c.lowest-x.result)) (has c.args.planes.now)
+  safe : c.is_safe.result ≡ true → AreSafe (joined_in_row c.args.puzzle.now (c.args.y * c.args.puzzle.now.size.w + c.lowest-x.result)) (planes_have c.args.planes.now)
   safe on = row-line c.args.puzzle.now c.args.y c.lowest-x.result x_in c.args.planes.now c.requires.planes.size _ _ _ (c.is_safe.ensures on) run-is
       c.row-zeros.ensures.cells c.row-ones.ensures.cells
 
-  full : IsBinaryAlive (light_cells c.args.puzzle.now) (has c.args.planes.now)
+  full : IsBinaryAlive (light_cells c.args.puzzle.now) (planes_have c.args.planes.now)
   full = planes-full c.args.puzzle.now c.args.planes.now c.requires.planes.size c.requires.planes.alive
 
   pub run-idle : c.is_safe.result ≡ true → (k : ℕ) → has_bit (g.W.Word.bits c.index-run.result.now) k ≡ true
-      → AreIdle (lit_house c.args.puzzle.now (c.args.y * c.args.puzzle.now.size.w + k)) (has c.args.planes.now)
+      → AreIdle (lit_house c.args.puzzle.now (c.args.y * c.args.puzzle.now.size.w + k)) (planes_have c.args.planes.now)
   run-idle on k there =
       let p = c.args.puzzle.now in
       row-safe (c.args.y * p.size.w + k) c.requires.planes.lawful full (row-moved p c.args.y k x_in (g.W.Word.bits c.index-run.result.now) run-is there (safe on))
 
-  pub own-idle : c.is_safe.result ≡ true → AreIdle (lit_house c.args.puzzle.now (c.args.y * c.args.puzzle.now.size.w + c.lowest-x.result)) (has c.args.planes.now)
+  pub own-idle : c.is_safe.result ≡ true → AreIdle (lit_house c.args.puzzle.now (c.args.y * c.args.puzzle.now.size.w + c.lowest-x.result)) (planes_have c.args.planes.now)
   own-idle on = row-safe (c.args.y * c.args.puzzle.now.size.w + c.lowest-x.result) c.requires.planes.lawful full (safe on)
 
 pub loop-ones-init : goal.loop-ones-init
@@ -99,7 +99,7 @@ loop-ones-smaller g c =
 
 -- two cells of its column run can have a bulb, or one must
 column : (g : _) (c : After-either-met g) → c.lowest-x.result < c.args.puzzle.now.size.w → ArePlanesOf g.W.Word.room c.args.puzzle.now c.loop-ones.planes
-    → AreSafe (joined_in_column c.args.puzzle.now (c.args.y * c.args.puzzle.now.size.w + c.lowest-x.result)) (has c.loop-ones.planes)
+    → AreSafe (joined_in_column c.args.puzzle.now (c.args.y * c.args.puzzle.now.size.w + c.lowest-x.result)) (planes_have c.loop-ones.planes)
 column g c lt planes =
     let p = c.args.puzzle.now in
     column-line p c.args.y c.lowest-x.result lt c.loop-ones.planes planes.size _ _ _ (c.is_safe-else-is_safe.ensures c.if-is_safe-2.true)

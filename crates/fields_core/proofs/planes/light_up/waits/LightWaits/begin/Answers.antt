@@ -1,4 +1,4 @@
-use Rattle.fields_core.proofs.Common.{AreLinesOf, eq-eqb, has, light_counts, refl, sym, true≢false, ◌%◌, ◌/◌, ◌∙◌, ◌≡◌}
+use Rattle.fields_core.proofs.Common.{AreLinesOf, eq-eqb, planes_have, light_counts, refl, sym, true≢false, ◌%◌, ◌/◌, ◌∙◌, ◌≡◌}
 use Rattle.fields_core.proofs.LightSweeps.{lines-at}
 use Rattle.fields_core.proofs.PlaneSweeps.{around-some}
 use Rattle.fields_core.proofs.planes.light_up.waits.LightWaits.begin.Goals as goal
@@ -10,8 +10,8 @@ own : (g : _) (c : After-has g) → AreLinesOf g.W.Word.bits (record { columns =
 own g c = rw (← c.requires.planes.size) (c.one.ensures _ ∙ rw (c.split-y.ensures.column) (eq-eqb _ _ refl), c.one-2.ensures _ ∙ rw (c.split-y.ensures.row) (eq-eqb _ _ refl))
 
 -- whether it can have 1
-one-is : (g : _) (c : After-has g) → c.has.result ≡ has c.args.planes.now c.in-Some.place 1
-unfolding has
+one-is : (g : _) (c : After-has g) → c.has.result ≡ planes_have c.args.planes.now c.in-Some.place 1
+unfolding planes_have
 one-is g c = c.has.ensures ∙ c.row.ensures.cells _ ∙ rw (c.split-y.ensures.column, c.split-y.ensures.row) refl
 
 pub returns-then-has : goal.returns-then-has

@@ -1,4 +1,4 @@
-use Rattle.fields_core.proofs.Common.{AreTentsRested, AreVisited, Columns, Rows, Squares, Tents, Trees, all_of_kind, arith, fewer_left, has, has_bit, kind_houses, kind_lines, later_kinds, refl, sym, true, true≢false, ℕ, ◌∙◌, ◌≡◌, ◌≤◌}
+use Rattle.fields_core.proofs.Common.{AreTentsRested, AreVisited, Columns, Rows, Squares, Tents, Trees, all_of_kind, arith, fewer_left, planes_have, has_bit, kind_houses, kind_lines, later_kinds, refl, sym, true, true≢false, ℕ, ◌∙◌, ◌≡◌, ◌≤◌}
 use Rattle.fields_core.specs.declared.planes.tents.waits.Kind.{Kind}
 use Rattle.fields_core.proofs.IdleLemmas.{passed-all, passed-doomed}
 use Rattle.fields_core.proofs.TentTouching.{filled-or-dead}
@@ -58,7 +58,7 @@ returns-clause-ready g c = λ _.
     let bits = g.W.Word.bits in let p = c.args.puzzle.now in
     let now = c.loop-left.planes in let passed = c.loop-left.invariant.passed in
     let further = passed.visited.further in
-    let before : AreTentsRested bits p c.loop-left.self.waits (has c.args.planes.now) = rw c.loop-left.invariant.waits c.requires.ready.rested in
+    let before : AreTentsRested bits p c.loop-left.self.waits (planes_have c.args.planes.now) = rw c.loop-left.invariant.waits c.requires.ready.rested in
     let size = c.requires.ready.field.size in
     let still : c.if-len.self.trees ≡ c.args.self.now.trees = elim c.if-len.branch [
       | then-len w ↦ rw w.self-is c.loop-left.invariant.trees
@@ -66,7 +66,7 @@ returns-clause-ready g c = λ _.
     ] in
     record {
       field = rw still (field-further c.requires.ready.field further passed.visited.alive);
-      rested = c.settle.ensures p (has now)
+      rested = c.settle.ensures p (planes_have now)
           (elim c.if-len.branch [
             | then-len w ↦ rw w.self-is (rested-woken w.lost-zeros.ensures.lawful w.lost-zeros.ensures.zeros w.lost-zeros.ensures.ones w.woken-self.ensures
                 c.requires.ready.field.lawful size (sym c.len-len.ensures.len) c.requires.ready.field.alive passed.visited.alive further before)

@@ -1,4 +1,4 @@
-use Rattle.fields_core.proofs.Common.{AreLinesOf, eq-eqb, has, refl, sym, tent_counts, true≢false, ◌%◌, ◌/◌, ◌∙◌}
+use Rattle.fields_core.proofs.Common.{AreLinesOf, eq-eqb, planes_have, refl, sym, tent_counts, true≢false, ◌%◌, ◌/◌, ◌∙◌}
 use Rattle.fields_core.proofs.TentWaits.{place-in_planes, rested-at}
 use Rattle.fields_core.proofs.PlaneSweeps.{around-some}
 use Rattle.fields_core.proofs.planes.tents.waits.TentWaits.new.Goals as goal
@@ -25,4 +25,4 @@ returns g c =
     (λ off. absurd (around-some (tent_counts c.args.puzzle.now) around (sym c.has.ensures ∙ c.if-has.false) off)) (λ _. lines g (goal.at.returns g c).After-one-2) c.woken-2.ensures
 
 pub returns-in_default : goal.returns-in_default
-returns-in_default g c = c.all.ensures c.args.puzzle.now (has c.args.planes.now) c.requires.board.suited
+returns-in_default g c = c.all.ensures c.args.puzzle.now (planes_have c.args.planes.now) c.requires.board.suited
