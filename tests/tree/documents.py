@@ -33,12 +33,7 @@ HELP_SECONDS = 600
 PLACE = re.compile(r"(?:docs|bench|tests|packaging|python|examples|page|library|crates|\.ci)/[\w./-]*\w")
 NUMBER = re.compile(r"\d[\d,]*")
 NAME = re.compile(r"[A-Za-z_][\w-]*\w")
-TWICE = {  # words with two definitions, and why they still have them: this list only gets shorter
-    "cells_of": "of a board of sets, and of planes: each crate imports one of them",
-    "has": "the same",
-    "back_at": "of a trail, and of planes: the board that a length leads back to",
-    "HasRoomFor": "whether words of planes are long enough; whether notes of Solo are",
-}
+TWICE = {}  # words with two definitions, and why they still have them: this list only gets shorter
 
 
 def documents():

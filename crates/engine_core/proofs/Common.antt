@@ -3,7 +3,7 @@ pub use Rattle.std.proofs.Common.{Bool, IfSome, List, None, Option, Some, [], ad
 pub use Rattle.std.proofs.Common.{get_or, if◌then◌else◌, inl, inr, is_some, length, length-append, length-set, length-take, ltb, max, not, option_to_list}
 pub use Rattle.std.proofs.Common.{refl, replicate, rules, set, slice_index, subst, suc, sym, take, true, w32, w64, zero, ℕ, ◌%◌, ◌&&◌, ◌*◌, ◌++◌, ◌+◌, ◌-◌}
 pub use Rattle.std.proofs.Common.{◌/◌, ◌<◌, ◌==◌, ◌^◌, ◌||◌, ◌↔◌, ◌∙◌, ◌∷◌, ◌≡◌, ◌≢◌, ◌≤◌, ◌⊎◌}
-pub use Rattle.std.proofs.Math.Bool.{and-false, and-true, or-false}
+pub use Rattle.std.proofs.Math.Bool.{and-false, and-true, not-not, or-false}
 pub use Rattle.std.proofs.Math.Nat.{div-div-eq-div-mul, div-le_self, mul-le-mul_right, mul-suc, pow-succ'}
 pub use Rattle.std.proofs.Math.Path.{fun_ext}
 pub use Rattle.std.proofs.Math.Seq.{take-append_seam, take-length, take-suc-set}
@@ -30,7 +30,7 @@ pub use Rattle.grid_core.proofs.BoardLemmas.{count_ones-bits}
 pub use Rattle.grid_core.proofs.BoardLemmas.{all_below-from, any_below-here, any_below-none, any_below-some, count_below-any, count_below-bound}
 pub use Rattle.grid_core.proofs.BoardLemmas.{count_below-few, count_below-kept, count_below-le, count_below-lt, count_below-none, count_below-one}
 pub use Rattle.grid_core.proofs.BoardLemmas.{count_below-pos, count_below-same, is_dead-each, is_dead-here, is_dead-inside, is_dead-not}
-pub use Rattle.grid_core.proofs.BoardLemmas.{least_below-passes, same_from_inside, same_or_fewer, sum_below-add, sum_below-le, total-le, total-lt}
+pub use Rattle.grid_core.proofs.BoardLemmas.{least_below-passes, same_from_inside, same_or_fewer, sum_below-add, sum_below-le, total-bound, total-le, total-lt}
 pub use Rattle.grid_core.proofs.BoardLemmas.{total-pos, within_inside}
 pub use Rattle.grid_core.proofs.GridLemmas.{grid_of-at, grid_of-full, grid_of-inside, is_full-count, length-grid_of, only-at, only-has, only-here}
 pub use Rattle.grid_core.proofs.GridLemmas.{only-inside, only-other, single-at, total-only}

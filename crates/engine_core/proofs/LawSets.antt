@@ -1,5 +1,5 @@
 -- The laws that the goals of a file use, by the file's name.
-use Rattle.engine_core.proofs.Common.{bound_enough, by_houses-lawful, ends-close, ends-more, last-le, length-pieces, length-set, piece-at, piece-ends, sets-bits, shown_from_test, test_from_shown}
+use Rattle.engine_core.proofs.Common.{bound_enough, by_houses-lawful, ends-close, ends-more, last-le, length-pieces, length-set, piece-at, piece-ends, sets-bits, shown_from_test, test_from_shown, total-bound}
 use Rattle.engine_core.proofs.ClosingLemmas.{closure_inside, closure_closed, closure_largest}
 use Rattle.engine_core.proofs.MarkLemmas.{joined-first, joined-more, lowest_left, mark-first, mark-more, marked-first, marked-more, marks-at, next-marked, none_left, waiting-dequeue, waiting-enqueue}
 use Rattle.engine_core.proofs.HouseLemmas.{closed-in, kept-first, kept-inside, kept-more, last-at, listed-close, listed-more, scopes-fit, striking-first, striking-more, table-houses, total-closed}
@@ -7,7 +7,6 @@ use Rattle.engine_core.proofs.JudgeLemmas.{grid-fits, grid-long, pick-ends, pick
 use Rattle.engine_core.proofs.SearchLemmas.{found_iff, outcome-counts, outcome-true, spent-counts, trials-counted, tried-first}
 use Rattle.engine_core.proofs.WalkLemmas.{walk-once, walk-unfold}
 use Rattle.engine_core.proofs.PlaneSteps.{step-onward, step-walks}
-use Rattle.engine_core.proofs.SweepLemmas.{total-bound}
 use Rattle.engine_core.proofs.TrailLemmas.{trail-none}
 use Rattle.grid_core.proofs.TakingLemmas.{put_back-none}
 

@@ -32,14 +32,10 @@ waiting-word : (f : Bool → Bool → Bool) → ((x : Bool) → f x false ≡ x)
 waiting-word f none waits h y j lt bits = elim (cases_eq (j / 64) (h / 64)) [
   | inl word ↦
       word-same waits (h / 64) y j lt word ∙ bits (j % 64) (omega arith)
-      ∙ (let same = same_bool (eqb (j % 64) (h % 64)) (eqb j h) (grind (arith, common_steps, eq-eqb, eqb-true, same_house))
-      (grind (arith, common_steps, eq-eqb, eqb-true)) in
+      ∙ (let same : eqb (j % 64) (h % 64) ≡ eqb j h = grind (arith, common_steps, cases_eq j h, eq-eqb, ne_eqb, same_house) in
       rw (word-is waits (h / 64) j word, same) refl)
   | inr apart ↦ word-other waits (h / 64) y j apart ∙ rw (ne_eqb j h (λ e. apart (ap (λ k. k / 64) e))) (sym (none _))
 ]
-  where
-    same_bool : (x y : Bool) → (x ≡ true → y ≡ true) → (y ≡ true → x ≡ true) → x ≡ y
-    same_bool x y p q = grind (arith, common_steps)
 
 pub waiting-enqueue : (waits : List ℕ) (h j : ℕ) → h / 64 < length waits
     → is_waiting (set waits (h / 64) (bit_or (get_or waits (h / 64) 0) (1 * 2 ^ (h % 64) % 18446744073709551616))) j ≡ (is_waiting waits j || eqb j h)

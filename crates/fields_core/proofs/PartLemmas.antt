@@ -1,5 +1,6 @@
 -- Visits of count houses by pieces of lines.
 use Rattle.fields_core.proofs.Common.{ArePartsCounted, ArePieces, ArePlanesAlive, Bool, Candidates, CountHouse, Extent, IsBroken, IsCount, IsHouseOfPieces, IsTally, Layers, List, Piece, add-one, after_house, and-false, and-true, and_comm, and_from, and_parts, any_below, any_below-some, ap, arith, at_line, cases_Bool, cases_eq, plane_cells, common_steps, count_below, count_below-bound, count_below-none, count_below-pos, count_below-same, count_by, covers, crosses, distinct-from, eq-eqb, eqb, false, false_from_ne_true, fun_ext, planes_have, has_bit, has_place, has_place-at, inl, inr, is_empty, is_open, le-ltb, length, lies_in, lies_in_first, line_len, lines_beside, lt-ltb, ltb, ltb-true, ne_eqb, not, number_of, piece_at, refl, slice_index, suc, sym, true, without_taking, without_value, zero, ℕ, ◌%◌, ◌&&◌, ◌+◌, ◌-◌, ◌/◌, ◌<◌, ◌||◌, ◌∙◌, ◌≡◌, ◌≢◌, ◌≤◌, ◌⊎◌}
+pub use Rattle.grid_core.proofs.PlaneSteps.{value-in}
 use Rattle.fields_core.proofs.CountKept.{after-at, off-scope}
 use Rattle.fields_core.proofs.CellLemmas.{count-apart, line-count, crosses-both, place-count}
 
@@ -114,10 +115,6 @@ tally-of p {pieces} {house} alive counted of =
     none c some = grind (arith, common_steps, cases_Bool)
 
 -- ---- a visit
-pub value-in : (p : Layers) (c v : ℕ) → planes_have p c v ≡ true → v < 2
-unfolding planes_have
-value-in p c v on = ltb-true _ _ (and_parts _ _ on).0
-
 -- whether the value is struck from undecided cells
 abbrev pub at_bound : ℕ → ℕ → ℕ → ℕ → ℕ → Bool
 at_bound least most must may v = (eqb v 1 && eqb must most) || (eqb v 0 && eqb may least)

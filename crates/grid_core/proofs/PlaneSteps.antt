@@ -1,6 +1,6 @@
 -- Planes step by step, and their rows as cells by place.
 use Rattle.grid_core.proofs.Common.{AreLinesFilled, ArePlanes, Bool, Candidates, Extent, HasRoomForTaking, IsExtent, IsFresh, IsLeast, IsTakingIn, IsThere, Layers, List, None, Option, Row, Some, Taking, all_of, and_comm, and_parts, any_below, ap, arith, better, bit_of, bool_byte, cases_Bool, cases_eq, cases_lt, plane_cells, common_steps, cond, count_below, covers, crosses, div-add-mod', div-lt_iff_lt-mul, div-mul-add, eq-eqb, eqb, eqb-true, false, false_from_ne_true, fun_ext, get_or, get_or-map, get_or-replicate, get_or-set_other, get_or-set_same, get_or_past, grid_of, planes_have, has_bit, inl, inr, is_full, layers_of, le-ltb, length, length-map, length-replicate, length-set, lt-ltb, ltb, ltb-true, map, map-set, mod-lt, ne_eqb, no_taking, not, only, pick, refl, replicate, set, slice_index, suc, sym, taking_at, taking_of, total, true, without_taking, zero, ℕ, ◌%◌, ◌&&◌, ◌*◌, ◌+◌, ◌-◌, ◌/◌, ◌<◌, ◌↔◌, ◌∙◌, ◌≡◌, ◌≤◌}
-use Rattle.grid_core.proofs.BoardLemmas.{any_below-none, count_below-bound}
+use Rattle.grid_core.proofs.BoardLemmas.{any_below-none, count_below-bound, total-bound}
 use Rattle.grid_core.proofs.WordLemmas.{zero-bits}
 use Rattle.grid_core.specs.declared.planes.line.Change.{Change}
 use Rattle.grid_core.specs.declared.planes.Planes.TheInside.{Inside}
@@ -51,12 +51,6 @@ full-has p size e pos is = fun_ext λ c. fun_ext λ v. elim (cases_lt v 2) [
         ]
 
 -- ---- a board to begin with
-total-bound : (cells values : ℕ) (K : Candidates) → total cells values K ≤ cells * values
-unfolding total
-total-bound zero values K = omega arith
-total-bound (suc cells) values K =
-    let e : suc cells * values ≡ cells * values + values = omega arith in omega (arith, total-bound cells values K, count_below-bound (K cells) values)
-
 pub record ArePlanesBegun (room : ℕ) (size : Extent) (K : Candidates) (p : Layers) : Type 0 where
   pub are : ArePlanes room p
   pub fresh : IsFresh size K p
@@ -155,7 +149,7 @@ module _ {W : Type 0} (bits : W → ℕ) (p : Inside W) {room : ℕ}
 -- Rows of planes as cells by place: which can have both values, and which have just one.
 
 -- ---- a cell's values
-two-counted : (f : ℕ → Bool) → count_below f 2 ≡ cond (f 0) 1 0 + cond (f 1) 1 0
+pub two-counted : (f : ℕ → Bool) → count_below f 2 ≡ cond (f 0) 1 0 + cond (f 1) 1 0
 unfolding count_below
 two-counted f = omega arith
 
@@ -271,7 +265,7 @@ written-all p g full written = sym (grid_of-full (plane_cells p) 2 (planes_have 
     let w = single-is g c v on in rw (← w.1) (written.each c (omega (arith, w.0, written.long))).1))
 
 -- ---- one value of a cell kept
-value-in : (p : Layers) (c v : ℕ) → planes_have p c v ≡ true → v < 2
+pub value-in : (p : Layers) (c v : ℕ) → planes_have p c v ≡ true → v < 2
 unfolding planes_have
 value-in p c v on = ltb-true v 2 (and_parts _ _ on).0
 

@@ -3,7 +3,7 @@ use Rattle.pattern_core.proofs.Common.{AreClues, ArePlanes, ArePositive, Bool, C
 use Rattle.grid_core.specs.Candidates.{IsWithin as HasCells}
 unfoldable use Rattle.grid_core.specs.Board.{has as on_board}
 unfoldable use Rattle.grid_core.specs.Planes.{covers, crosses, planes_have, without_taking}
-use Rattle.grid_core.proofs.PlaneSteps.{has-at}
+use Rattle.grid_core.proofs.PlaneSteps.{has-at, two-counted}
 use Rattle.engine_core.proofs.HouseLemmas.{kept-after}
 use Rattle.engine_core.specs.Keeping.{AreSetsOf}
 use Rattle.engine_core.specs.PositionLaws.{within_of}
@@ -65,10 +65,6 @@ lost-two true false false y w b = grind (arith, common_steps, cases_Bool y, b)
 lost-two false true x true w b = grind (arith, common_steps, cases_Bool x, w)
 lost-two false true x false w b = grind (arith, common_steps, cases_Bool x, w)
 lost-two false false x y w b = grind (arith, common_steps, cases_Bool x, cases_Bool y, w, b)
-
-two-counted : (f : ℕ → Bool) → count_below f 2 ≡ cond (f 0) 1 0 + cond (f 1) 1 0
-unfolding count_below
-two-counted f = omega arith
 
 -- ---- what is kept of a line
 module _ (pat : Pattern) (p : Layers) (line : Line) (same : p.size ≡ pat.size) (lt : number_of line < lines_beside pat.size line)

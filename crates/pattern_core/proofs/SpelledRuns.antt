@@ -138,9 +138,7 @@ unfolding track_of
 track_below spell fits = grind (arith, common_steps, cases_Bool, place_low)
 
 pub same_tests : (x y : Bool) → (x ≡ true → y ≡ true) → (y ≡ true → x ≡ true) → x ≡ y
-same_tests true y h k = sym (h refl)
-same_tests false true h k = k refl
-same_tests false false h k = refl
+same_tests x y h k = grind (arith, common_steps)
 
 -- ---- tests of fillings
 some_or : (sets : List Set) (t u : List ℕ → Bool) → some_filling sets (λ f. t f || u f) ≡ (some_filling sets t || some_filling sets u)
