@@ -20,7 +20,7 @@ pub(crate) fn read_sets<R: Rules>(rules: &R, house: usize, board: &Board, sets: 
     }
 }
 
-/// The same at the head of a longer list, in a queue alone.
+/// Reads the sets of a house to the front of `sets`, if the rules are closed by a queue.
 pub(crate) fn read_head<R: Rules>(rules: &R, house: usize, board: &Board, sets: &mut [u32])
     requires house_in { house < (R.system rules.now).houses }
     requires board_of { IsBoardOf (R.system rules.now) board.now }
