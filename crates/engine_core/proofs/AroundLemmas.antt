@@ -1,5 +1,5 @@
 -- Closings that go around over the houses that wait, and what they came to.
-use Rattle.engine_core.proofs.Common.{AreWritten, BoardAndMarks, Bool, Candidates, Dead, HasStruck, IsAlive, IsClosedBy, IsClosedIn, IsClosing, IsDead, IsLawful, IsQueuedAround, IsRested, IsTaken, IsWithin, IsWoken, List, Open, RuleSystem, Some, [], after, ap, arith, but, cases_Bool, cases_lt, common_steps, false, from_bool, has, if◌then◌else◌, inl, inr, is_dead, le-ltb, length, length-append, length-set, lt-ltb, ltb, max, not, refl, set, suc, sweeps_in, sym, take, true, true≢false, visits_in, within_inside, ℕ, ◌&&◌, ◌*◌, ◌++◌, ◌+◌, ◌-◌, ◌<◌, ◌||◌, ◌∙◌, ◌∷◌, ◌≡◌, ◌≤◌, ◌⊎◌, and-true, and-false}
+use Rattle.engine_core.proofs.Common.{AreWritten, BoardAndMarks, Bool, Candidates, Dead, HasStruck, IsAlive, IsClosedBy, IsClosedIn, IsClosing, IsDead, IsLawful, IsQueuedAround, IsRested, IsTaken, IsWithin, IsWoken, List, Open, RuleSystem, Some, [], after, ap, arith, but, cases_Bool, cases_lt, common_steps, false, from_bool, has, if◌then◌else◌, inl, inr, is_dead, le-ltb, length, length-append, length-set, lt-ltb, ltb, max, not, refl, set, sweeps_in, sym, take, true, true≢false, visits_in, within_inside, ℕ, ◌&&◌, ◌*◌, ◌++◌, ◌+◌, ◌-◌, ◌<◌, ◌||◌, ◌∙◌, ◌∷◌, ◌≡◌, ◌≤◌, ◌⊎◌, and-true, and-false}
 use Rattle.engine_core.specs.declared.mode.Closing.{Closing}
 use Rattle.engine_core.specs.declared.mode.Taken.{Taken}
 use Rattle.engine_core.proofs.ClosingLemmas.{replay_inside}
@@ -57,17 +57,8 @@ no-queue false more off = refl
 pub steps-fall : {bound houses from h : ℕ} (turns more next : ℕ) (queue : Bool) → turns + more ≤ bound → from ≤ houses → h < houses
     → (queue ≡ false → next ≡ h + 1) → more ≡ from_bool (queue || ltb h from)
     → (bound - (turns + more)) * (houses + 1) + (houses - next) < (bound - turns) * (houses + 1) + (houses - from)
-steps-fall {bound = bound} {houses = houses} {from = from} {h = h} turns more next queue le past lt order counts = elim (cases_Bool (queue || ltb h from)) [
-  | inl on ↦ (
-      let one : more ≡ 1 = rw on at counts in
-      let k : bound - turns ≡ suc (bound - (turns + more)) = omega arith in
-      let e : suc (bound - (turns + more)) * (houses + 1) ≡ (bound - (turns + more)) * (houses + 1) + (houses + 1) = omega arith in
-      rw (k, e) (omega arith))
-  | inr off ↦ (
-      let none : more ≡ 0 = rw off at counts in
-      let k : turns + more ≡ turns = omega arith in
-      rw (k, order (no-queue queue _ off)) (omega (arith, not-before queue h from off)))
-]
+steps-fall {bound = bound} {houses = houses} {from = from} {h = h} turns more next queue le past lt order counts =
+    grind (arith, common_steps, cases_Bool, ltb, no-queue, not-before)
 
 -- ---- exact closings
 -- a queue made these visits, and ends where they leave a dead board

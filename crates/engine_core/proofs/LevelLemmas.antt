@@ -73,14 +73,8 @@ pub levels-onward : {p : RuleSystem} (s s' : Standing) {frames : List Frame} (n 
 levels-onward s s' {frames} n ready onward = levels-back s s' frames n (λ k lt. onward.back (frame_at frames k).mark (ready.marked k lt))
 
 pub ready-onward : {p : RuleSystem} {s s' : Standing} {frames : List Frame} {n : ℕ} → IsReady p s frames n → IsOnward s s' → IsReady p s' frames n
-ready-onward {p} {s} {s'} {frames} {n} ready onward = record {
-  room = ready.room;
-  marked = λ k lt. omega (arith, ready.marked k lt, onward.grows);
-  ascend = ready.ascend;
-  open_levels = λ k lt.
-      let f = frame_at frames k in
-      subst (λ l. IsOpen p l k) (sym (level-with s' f (onward.back f.mark (ready.marked k lt)))) (ready.open_levels k lt);
-}
+ready-onward {p} {s} {s'} {frames} {n} ready onward =
+    grind (arith, common_steps, level-with, ready.room, ready.marked, onward.grows, ready.ascend, onward.back, ready.open_levels)
 
 -- ---- a frame is pushed, which marks the board as it is: it is the innermost level, and the others stay
 abbrev pub frame_of : ℕ → ℕ → Frame

@@ -29,13 +29,7 @@ word-is waits w j e = ap (λ k. has_bit (get_or waits k 0) (j % 64)) e
 waiting-word : (f : Bool → Bool → Bool) → ((x : Bool) → f x false ≡ x) → (waits : List ℕ) (h y j : ℕ) → h / 64 < length waits
     → ((b : ℕ) → b < 64 → has_bit y b ≡ f (has_bit (get_or waits (h / 64) 0) b) (eqb b (h % 64)))
     → is_waiting (set waits (h / 64) y) j ≡ f (is_waiting waits j) (eqb j h)
-waiting-word f none waits h y j lt bits = elim (cases_eq (j / 64) (h / 64)) [
-  | inl word ↦
-      word-same waits (h / 64) y j lt word ∙ bits (j % 64) (omega arith)
-      ∙ (let same : eqb (j % 64) (h % 64) ≡ eqb j h = grind (arith, common_steps, cases_eq j h, eq-eqb, ne_eqb, same_house) in
-      rw (word-is waits (h / 64) j word, same) refl)
-  | inr apart ↦ word-other waits (h / 64) y j apart ∙ rw (ne_eqb j h (λ e. apart (ap (λ k. k / 64) e))) (sym (none _))
-]
+waiting-word f none waits h y j lt bits = grind (arith, common_steps, word-same, same_house, word-is, word-other)
 
 pub waiting-enqueue : (waits : List ℕ) (h j : ℕ) → h / 64 < length waits
     → is_waiting (set waits (h / 64) (bit_or (get_or waits (h / 64) 0) (1 * 2 ^ (h % 64) % 18446744073709551616))) j ≡ (is_waiting waits j || eqb j h)
@@ -166,16 +160,7 @@ mark-first = record { each = λ c h lh. grind (arith, common_steps) }
 
 -- it is the bit of the house at the place
 same-bit : (words c d h g : ℕ) → h / 64 < words → g / 64 < words → eqb (place_bit words c h) (place_bit words d g) ≡ (eqb h g && eqb d c)
-same-bit words c d h g lh lg = elim (cases_eq (place_bit words c h) (place_bit words d g)) [
-  | inl e ↦ let both = mark-own words c d h g lh lg e in rw (eq-eqb _ _ e, eq-eqb h g both.1, eq-eqb d c (sym both.0)) refl
-  | inr other ↦ rw (ne_eqb _ _ other) (sym (elim (cases_eq h g) [
-    | inr ne ↦ rw (ne_eqb h g ne) refl
-    | inl e ↦ elim (cases_eq d c) [
-      | inr ne ↦ grind (arith, ne_eqb d c ne)
-      | inl f ↦ absurd (other (ap (λ x. place_bit words x h) (sym f) ∙ ap (place_bit words d) e))
-    ]
-  ]))
-]
+same-bit words c d h g lh lg = grind (arith, common_steps, cases_eq, mark-own, eq-eqb, ne_eqb)
 
 pub mark-more : {words house : ℕ} (scope : List ℕ) {k word : ℕ} {old now : List ℕ} → k < length scope → house / 64 < words
     → word ≡ slice_index scope k * words + house / 64 → word < length now → HasMarked words house (take k scope) old now
@@ -198,27 +183,12 @@ pub marked-first : {cells : ℕ} (scopes : List (List ℕ)) {marks : List ℕ} �
     → ((w : ℕ) → w < length marks → slice_index marks w ≡ 0)
     → AreMarked cells scopes 0 marks
 unfolding is_waiting
-marked-first {cells} scopes {marks} long none = record {
-  as_many = long;
-  each = λ c h lc lh.
-      let fits = mul-le-mul_right (words_of (length scopes)) lc in
-      let word : place_bit (words_of (length scopes)) c h / 64 ≡ c * words_of (length scopes) + h / 64 = omega arith in
-      ap (λ x. has_bit x (place_bit (words_of (length scopes)) c h % 64)) (none (place_bit (words_of (length scopes)) c h / 64) (omega arith)) ∙ zero-bits _ ∙ sym (rw (le-ltb h 0 (omega arith)) refl);
-}
+marked-first {cells} scopes {marks} long none = grind (arith, common_steps, mul-le-mul_right, zero-bits, le-ltb)
 
 pub marked-more : {cells house : ℕ} (scopes : List (List ℕ)) {marks more : List ℕ} → AreMarked cells scopes house marks
     → HasMarked (words_of (length scopes)) house (scope_of scopes house) marks more → length more ≡ length marks
     → AreMarked cells scopes (house + 1) more
-marked-more {cells} {house} scopes a b long = record {
-  as_many = long ∙ a.as_many;
-  each = λ c h lc lh. b.each c h lh ∙ rw (a.each c h lc lh) (elim (cases_eq h house) [
-    | inl e ↦ rw (e, le-ltb house house (omega arith), lt-ltb house (house + 1) (omega arith), eq-eqb house house refl) refl
-    | inr ne ↦ rw (ne_eqb h house ne) (elim (cases_lt h house) [
-      | inl low ↦ grind (arith, lt-ltb h house low, lt-ltb h (house + 1) (omega arith))
-      | inr high ↦ grind (arith, le-ltb h house high, le-ltb h (house + 1) (omega arith))
-    ])
-  ]);
-}
+marked-more {cells} {house} scopes a b long = grind (arith, common_steps, cases_eq, le-ltb, lt-ltb, eq-eqb, ne_eqb, cases_lt)
 
 -- ---- the marks of a place
 pub marks-at : {cells : ℕ} (scopes : List (List ℕ)) {marks : List ℕ} (c : ℕ) → c < cells → AreMarked cells scopes (length scopes) marks

@@ -43,16 +43,7 @@ plain-all {p} {h} {K} {left} n long le kept = record {
 pub plain-none : {p : RuleSystem} (laws : IsLawful p) {h : ℕ} {K : Candidates} {kept : List ℕ} (left : List ℕ) (n : ℕ) → h < p.houses → IsWithin p.cells p.values K
     → length (p.scope h) ≤ length left → IsKept p h K false kept
     → IsMarkedOut p h K 0 (range_with_len 0 n) left
-plain-none {p} laws {h} {K} left n lth within le kept = record {
-  few = omega arith;
-  strike =
-      record {
-        rising = record { within = λ t lt. absurd (omega arith); rising = λ t u less lt. absurd (omega arith) };
-        long = le;
-        kept = λ t lt. absurd (omega arith);
-        others = λ k v lt none. ap (λ L. L (slice_index (p.scope h) k) v) (sym (kept-none laws lth within kept));
-      };
-}
+plain-none {p} laws {h} {K} left n lth within le kept = grind (arith, common_steps, kept-none)
 
 -- ---- the last change is taken back
 pub shape-more : {a b c : Layout} → SameShape a b → SameShape b c → SameShape a c
@@ -88,14 +79,7 @@ unfolding only
 only-cell K cell value c w other = grind (arith, common_steps, cases_Bool, ne_eqb)
 
 pub only-keeps : (K : Candidates) (cell value values : ℕ) → 2 ≤ count_below (K cell) values → KeepsOnly K (only K cell value)
-only-keeps K cell value values several c v alone w = elim (cases_eq c cell) [
-  | inl e ↦ absurd (omega (
-    arith,
-    count_below-few (K cell) values (λ k j lk lj on_k on_j.
-        eqb-true k v (sym (rw e at (alone k)) ∙ on_k) ∙ sym (eqb-true j v (sym (rw e at (alone j)) ∙ on_j))),
-  ))
-  | inr other ↦ only-cell K cell value c w other ∙ alone w
-]
+only-keeps K cell value values several c v alone w = grind (arith, common_steps, cases_eq, count_below-few, eqb-true, only-cell)
 
 -- the value that is left alone is one
 only-is : (K : Candidates) (cell value k : ℕ) → only K cell value cell k ≡ true → k ≡ value

@@ -26,16 +26,7 @@ module _ {S L : Type 0} {p : RuleSystem} {size : Extent} {is_own : S ⊎ L → T
   -- the planes have another board inside the start, and it has a value in each cell
   walks : (p' : Layers) (kept : S ⊎ L) → AreUnderWay p size is_own s → p'.size ≡ s.planes.size → word_places kept ≡ word_places s.kept → is_own kept
       → IsLiveBoard p (planes_have p') → AreUnderWay p size is_own (record s { planes = p'; kept = kept })
-  walks p' kept under same words is board = record {
-    fits = under.fits;
-    own = is;
-    board = record {
-      suited = rw words under.board.suited;
-      same_size = same ∙ under.board.same_size;
-      cells = ap (λ (e : Extent). e.w * e.h) same ∙ under.board.cells;
-      board = board;
-    };
-  }
+  walks p' kept under same words is board = grind (arith, common_steps, under.fits, under.board.suited, under.board.same_size, under.board.cells)
 
   -- values were taken
   pub step-walks : (p' : Layers) (kept : S ⊎ L) → AreUnderWay p size is_own s → IsFurther s.planes p' → IsAlive p (planes_have p')
@@ -54,14 +45,7 @@ module _ {S L : Type 0} {p : RuleSystem} {size : Extent} {is_own : S ⊎ L → T
   -- the board was taken back, inside the start
   pub undo-walks : (p' : Layers) (m : ℕ) → IsLawful p → AreUnderWay p size is_own s → IsInside (back_at s.planes m) p.start → IsBack s.planes p' m
       → AreUnderWay p size is_own (record s { planes = p' })
-  undo-walks p' m laws under start back =
-      let inside : IsInside (planes_have p') p.start = rw back.here start in
-      walks p' s.kept under back.same_size refl under.own (record {
-        alive = false_from_ne_true _ (λ dead.
-            true≢false (sym (is_dead-inside p.cells p.values (planes_have s.planes) (planes_have p') back.regained dead) ∙ under.board.board.alive));
-        within = within_inside _ _ _ _ laws.start_within inside;
-        inside = inside;
-      })
+  undo-walks p' m laws under start back = grind (arith, common_steps, walks, false_from_ne_true, true≢false, is_dead-inside, within_inside)
 
   -- a board to begin with
   pub start-walks : IsLawful p → IsAlive p p.start → FitsIn (needs_of p) s.made → s.planes.size ≡ size → size.w * size.h ≡ p.cells

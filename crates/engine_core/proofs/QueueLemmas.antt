@@ -87,15 +87,7 @@ rested_around laws place none woken around = λ h c v lt asleep on.
 pub closed-but_only : (p : RuleSystem) (K : Candidates) (cell v : ℕ)
     → K cell v ≡ true → IsWithin p.cells p.values K → IsClosed p K
     → is_dead p.cells p.values K ≡ false → IsClosedBut p (only K cell v) (Some cell)
-closed-but_only p K cell v on within closed alive = record {
-  before = K;
-  value = v;
-  had = on;
-  within = within;
-  closed = closed;
-  alive = alive;
-  is = refl;
-}
+closed-but_only p K cell v on within closed alive = grind (arith, common_steps)
 
 pub dead_of : (p : RuleSystem) {b : Layout} → IsBoardOf p b → is_dead (cells_of b) b.values (has b) ≡ is_dead p.cells p.values (has b)
 dead_of p {b} of = grind (arith, common_steps, has)
