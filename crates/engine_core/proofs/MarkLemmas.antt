@@ -1,5 +1,5 @@
 -- Marks of houses, as bits of words and place by place.
-use Rattle.engine_core.proofs.Common.{AreDifferent, AreMarked, AreMarksAt, Bool, HasMarked, IsNext, List, None, Option, Some, [], ap, arith, between, bit_and, bit_at, bit_at-trailing_zeros, bit_at-zero, bit_at_above, bit_at_clear_other, bit_at_clear_same, bit_at_ones, bit_at_set_other, bit_at_set_same, bit_or, but, cases_eq, cases_lt, common_steps, count_below, div-div-eq-div-mul, div-le_self, div-mul-add, either-bits, eq-eqb, eqb, eqb-true, false, get_or, get_or-between, get_or-replicate, get_or-set_other, get_or-set_same, get_or-take, has_bit, has_place, has_place-at, inl, inr, is_waiting, le-ltb, length, length-between, length-take-le, lt-ltb, ltb, ne_eqb, not, place_bit, places, pow-add, refl, replicate, scope_of, set, slice_index, suc, sym, take, take-append_seam, trailing_zeros, true, w64, words_of, zero, zero-bits, ℕ, ◌%◌, ◌&&◌, ◌*◌, ◌++◌, ◌+◌, ◌-◌, ◌/◌, ◌<◌, ◌^◌, ◌||◌, ◌∙◌, ◌∷◌, ◌≡◌, ◌≢◌, ◌≤◌}
+use Rattle.engine_core.proofs.Common.{AreDifferent, AreMarked, AreMarksAt, Bool, HasMarked, IsNext, List, None, Option, Some, [], ap, arith, between, bit_and, bit_at, bit_at-trailing_zeros, bit_at-zero, bit_at_above, bit_at_clear_other, bit_at_clear_same, bit_at_ones, bit_at_set_other, bit_at_set_same, bit_or, but, cases_eq, cases_lt, common_steps, count_below, div-div-eq-div-mul, div-le_self, div-mul-add, either-bits, eq-eqb, eqb, false, get_or, get_or-between, get_or-replicate, get_or-set_other, get_or-set_same, get_or-take, has_bit, has_place, has_place-at, inl, inr, is_waiting, le-ltb, length, length-between, length-take-le, lt-ltb, ltb, ne_eqb, not, place_bit, places, pow-add, refl, replicate, scope_of, set, slice_index, suc, sym, take, take-append_seam, trailing_zeros, true, w64, words_of, zero, zero-bits, ℕ, ◌%◌, ◌&&◌, ◌*◌, ◌++◌, ◌+◌, ◌-◌, ◌/◌, ◌<◌, ◌^◌, ◌||◌, ◌∙◌, ◌∷◌, ◌≡◌, ◌≢◌, ◌≤◌}
 use Rattle.std.proofs.Common.{mul-le-mul_right}
 
 -- Marks of houses as the bits of words.
