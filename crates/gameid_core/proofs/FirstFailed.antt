@@ -3,9 +3,6 @@ use Rattle.gameid_core.specs.Common.{AllByRecursion, Bool, IsAnswerOfCheck, IsFi
 use Rattle.gameid_core.proofs.LineLaws.{AllByRecursion-append, all_at}
 use Rattle.std.proofs.lemmas.Bool.{not-false, not-true, true_from_ne_false}
 
-bool_is : (a b : Bool) → (a ≡ true → b ≡ true) → (b ≡ true → a ≡ true) → a ≡ b
-bool_is a b to from = grind arith
-
 pub all_split : {F : Type 0} (P : F → Type 0) (xs ys : List F) → AllByRecursion P (xs ++ ys) → AllByRecursion P xs × AllByRecursion P ys
 all_split P [] ys all = (tt, all)
 all_split P (x ∷ xs) ys all = let rest = all_split P xs ys all.1 in ((all.0, rest.0), rest.1)
@@ -149,4 +146,4 @@ module _ {F : Type 0} (fails : F → Type 0) where
 
     pub none_tells : (told right : Bool) → (right ≡ true → solution) → (solution → right ≡ true)
         → (fault : Option F) → Answers fault → is_some fault ≡ not told → told ≡ right
-    none_tells told right from to fault is e = let both = tells told fault is e in bool_is told right (λ on. to (both.0 on)) (λ on. both.1 (from on))
+    none_tells told right from to fault is e = let both = tells told fault is e in grind (arith, both.0, both.1, from, to)

@@ -2,6 +2,7 @@ pub mod Reading
 pub mod LineLaws
 pub mod FirstFailed
 pub mod GameLaws
+pub mod HeadFaults
 pub mod HeadLaws
 pub mod LightTexts
 pub mod PatternTexts

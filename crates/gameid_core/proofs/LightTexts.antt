@@ -10,9 +10,6 @@ use Rattle.gameid_core.proofs.HeadLaws.{parts_of, plain_size, puzzle_again}
 abbrev pub lights : ℕ → ℕ → List LightCell → List ℕ → Result (List LightCell) IdFault
 lights all at cells text = reading (fill_step light_token all) (fill_end all) at cells (map (λ b. b ∷ []) text)
 
-pub wide_of : (w h : ℕ) → in_range game.LightUp w h ≡ true → IsWide (record { w = w; h = h })
-wide_of w h e = grind arith
-
 pub cells_few : {size : Extent} → IsExtent size → size.w * size.h ≤ max_side * max_side
 cells_few h = grind arith
 

@@ -165,9 +165,6 @@ pub record CluesSpelled (description : List ℕ) (all : List (List ℕ)) : Type 
   pub digits : AllByRecursion (AllByRecursion IsNumeral) numerals
   pub values : map (map value) numerals ≡ all
 
-is_extent : (w h : ℕ) → in_range game.Pattern w h ≡ true → IsExtent (record { w = w; h = h })
-is_extent w h e = grind arith
-
 module _ (size : Extent) where
   abbrev pub read_words : ℕ → SoFar → List (List ℕ) → Result (List (List ℕ)) IdFault
   read_words at s ws = reading (pattern_step size) (pattern_end size) at s ws
@@ -341,10 +338,11 @@ pattern_takes text p e =
     parts_of game.Pattern text
     (λ head description. clues_at (extent_of head.size) head.description description)
     (λ head clues. record { size = extent_of head.size; clues = clues }) e in
+    let extent : IsExtent (extent_of r.head.size) = grind (arith, r.is_head.range) in
     grind (
       arith,
       clues_take _ _ _ _ r.read,
-      is_extent r.head.size.w r.head.size.h r.is_head.range,
+      extent,
       clues_lawful (extent_of r.head.size) r.head.description (drop r.head.description text) r.given,
       plain_size,
     )

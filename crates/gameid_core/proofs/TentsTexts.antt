@@ -4,7 +4,7 @@ use Rattle.gameid_core.specs.TentsText.{IsTentsToken, TentsSoFar, TentsToken, at
 use Rattle.gameid_core.proofs.Reading.{IsWord, alone, bind_ok, concat_words, cuts_some, joined_cuts, only_of, reading_end, reading_of, reading_turn, words_are, words_first, words_nil, words_single}
 use Rattle.gameid_core.proofs.LineLaws.{AllByRecursion-append, AllByRecursion-replicate}
 use Rattle.gameid_core.proofs.HeadLaws.{parts_of, plain_size, puzzle_again}
-use Rattle.gameid_core.proofs.LightTexts.{wide_of, sized}
+use Rattle.gameid_core.proofs.LightTexts.{sized}
 use Rattle.gameid_core.specs.declared.id.game.Game.TheVariants as game
 
 -- some digit is in front
@@ -330,7 +330,7 @@ tents_takes text p e =
       trees = take (head.size.w * head.size.h) s.cells;
       counts = s.counts;
     }) e in
-    let wide = wide_of r.head.size.w r.head.size.h r.is_head.range in
+    let wide : IsWide (extent_of r.head.size) = grind (arith, r.is_head.range) in
     grind (
       arith,
       (read_all _ _ (words (drop r.head.description text)) (words_are (drop r.head.description text)) (sound_none _) r.read).2,

@@ -9,6 +9,7 @@ use Rattle.gameid_core.specs.declared.id.game.Game.{Game}
 use Rattle.gameid_core.specs.declared.id.game.Game.TheVariants.{Solo, Pattern, LightUp, Tents}
 use Rattle.gameid_core.specs.declared.id.head.Head.{Head}
 use Rattle.gameid_core.specs.declared.id.head.SidesRead.{SidesRead}
+pub use Rattle.gameid_core.specs.declared.id.head.SizeRead.{SizeRead}
 use Rattle.gameid_core.specs.Steps.{◌>>=◌}
 use Rattle.gameid_core.specs.Words.{begins, is_lead, digits_front, after_digits, value}
 
@@ -19,12 +20,7 @@ side_at text =
     then Ok (value (digits_front text), after_digits text)
     else Err BadSize
 
--- a size: its sides, and whether an 'x' stands after them, which is Solo X
-pub record SizeRead : Type 0 where
-  pub w : ℕ
-  pub h : ℕ
-  pub x : Bool
-
+-- a size by its sides, and by whether an 'x' stands after them, which is Solo X
 abbrev pub size_read : ℕ → ℕ → Bool → SizeRead
 size_read w h x = record { w = w; h = h; x = x }
 
@@ -109,7 +105,7 @@ head_of game text =
 
 -- What the code's functions give: a number over 1000 as 1000.
 abbrev pub head_read : Head → HeadRead
-head_read head = record { size = size_read head.w head.h head.x; description = head.description }
+head_read head = record { size = head.size; description = head.description }
 
 abbrev pub GivesSide : Result (ℕ × Bor (List ℕ)) IdFault → Result (ℕ × List ℕ) IdFault → Type 0
 GivesSide (Ok x) read = (n : ℕ) × (read ≡ Ok (n, x.1.now)) × (x.0 ≡ min 1000 n)

@@ -22,7 +22,7 @@ pub use grids::reader::read_grid;
 pub use grids::writer::push_grid;
 pub use id::fault::IdFault;
 pub use id::game::Game;
-pub use id::head::{MAX_ID, MAX_NUMBERS, read_size};
+pub use id::head::{MAX_ID, MAX_NUMBERS, SizeRead, read_size};
 pub use light_up::cell::LightCell;
 pub use light_up::id::{read_lights, write_lights};
 pub use light_up::puzzle::LightPuzzle;

@@ -1,6 +1,6 @@
 -- Planes step by step, and their rows as cells by place.
-use Rattle.grid_core.proofs.Common.{AreLinesFilled, ArePlanes, Bool, Candidates, Extent, HasRoomForTaking, IsExtent, IsFresh, IsLeast, IsTakingIn, IsThere, Layers, List, None, Option, Row, Some, Taking, all_of, and_comm, and_parts, any_below, ap, arith, better, bit_of, bool_byte, cases_Bool, cases_eq, cases_lt, plane_cells, common_steps, cond, count_below, covers, crosses, div-add-mod', div-lt_iff_lt-mul, div-mul-add, eq-eqb, eqb, eqb-true, false, false_from_ne_true, fun_ext, get_or, get_or-map, get_or-replicate, get_or-set_other, get_or-set_same, get_or_past, grid_of, planes_have, has_bit, inl, inr, is_full, layers_of, le-ltb, length, length-map, length-replicate, length-set, lt-ltb, ltb, ltb-true, map, map-set, mod-lt, ne_eqb, no_taking, not, only, pick, refl, replicate, set, slice_index, suc, sym, taking_at, taking_of, total, true, without_taking, zero, ℕ, ◌%◌, ◌&&◌, ◌*◌, ◌+◌, ◌-◌, ◌/◌, ◌<◌, ◌↔◌, ◌∙◌, ◌≡◌, ◌≤◌}
-use Rattle.grid_core.proofs.BoardLemmas.{any_below-none, count_below-bound, total-bound}
+use Rattle.grid_core.proofs.Common.{AreLinesFilled, ArePlanes, Bool, Candidates, Extent, HasRoomForTaking, IsExtent, IsFresh, IsLeast, IsTakingIn, IsThere, Layers, List, None, Option, Row, Some, Taking, all_of, and_comm, and_parts, any_below, ap, arith, better, bit_of, bool_byte, cases_Bool, cases_eq, cases_lt, plane_cells, common_steps, cond, count_below, covers, crosses, div-add-mod', div-lt_iff_lt-mul, div-mul-add, eq-eqb, eqb, eqb-true, false, false_from_ne_true, fun_ext, get_or, get_or-map, get_or-replicate, get_or-set_other, get_or-set_same, get_or_past, grid_of, planes_have, has_bit, inl, inr, is_full, layers_of, le-ltb, length, length-map, length-replicate, length-set, lt-ltb, ltb, ltb-true, map, map-set, mod-lt, ne_eqb, no_taking, not, only, pick, refl, replicate, set, slice_index, suc, sym, taking_at, taking_of, true, without_taking, zero, ℕ, ◌%◌, ◌&&◌, ◌*◌, ◌+◌, ◌-◌, ◌/◌, ◌<◌, ◌↔◌, ◌∙◌, ◌≡◌, ◌≤◌}
+use Rattle.grid_core.proofs.BoardLemmas.{any_below-none, total-bound}
 use Rattle.grid_core.proofs.WordLemmas.{zero-bits}
 use Rattle.grid_core.specs.declared.planes.line.Change.{Change}
 use Rattle.grid_core.specs.declared.planes.Planes.TheInside.{Inside}

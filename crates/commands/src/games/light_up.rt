@@ -83,8 +83,8 @@ impl Graded for LightPuzzle {
 
 impl Makable for LightPuzzle {
     fn make(alloc: Global, size: &[u8], recipe: Recipe) -> Result<Made<LightPuzzle>, Unmade> {
-        let (w, h, _) = read_size(Game::LightUp, size)?;
-        let size = Size::new(w, h).unwrap();
+        let size = read_size(Game::LightUp, size)?;
+        let size = Size::new(size.w, size.h).unwrap();
         let mut rng = generator(recipe.seed);
         let black = recipe.black.value;
         Ok(make_lights(alloc, size, black, &mut rng, recipe.limits)?)

@@ -82,8 +82,8 @@ impl Graded for PatternPuzzle {
 
 impl Makable for PatternPuzzle {
     fn make(alloc: Global, size: &[u8], recipe: Recipe) -> Result<Made<PatternPuzzle>, Unmade> {
-        let (w, h, _) = read_size(Game::Pattern, size)?;
-        let size = Size::new(w, h).unwrap();
+        let size = read_size(Game::Pattern, size)?;
+        let size = Size::new(size.w, size.h).unwrap();
         let mut rng = generator(recipe.seed);
         let black = recipe.black.value;
         Ok(make_pattern(alloc, size, black, &mut rng, recipe.limits)?)

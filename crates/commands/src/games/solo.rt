@@ -17,7 +17,7 @@ use crate::grade::grades::{GradeOptions, GradedRules};
 use crate::grade::{Attempt, Graded};
 use crate::played::Played;
 use crate::solve::solvable::{MAX_NAME, Solvable};
-use gameid_core::{Game, IdFault, Printed, SoloPuzzle, read_size, read_solo, write_solo};
+use gameid_core::{Game, IdFault, Printed, SizeRead, SoloPuzzle, read_size, read_solo, write_solo};
 use grid_core::Grid;
 use maker_core::{Made, make_solo};
 use solo_core::{
@@ -127,8 +127,8 @@ fn push_scope(text: &mut String, scope: VisitName) -> Result<(), AllocError>
 
 impl Makable for SoloPuzzle {
     fn make(alloc: Global, size: &[u8], recipe: Recipe) -> Result<Made<SoloPuzzle>, Unmade> {
-        let (c, r, x) = read_size(Game::Solo, size)?;
+        let SizeRead { w, h, x } = read_size(Game::Solo, size)?;
         let mut rng = generator(recipe.seed);
-        Ok(make_solo(alloc, c, r, x, &mut rng, recipe.limits)?)
+        Ok(make_solo(alloc, w, h, x, &mut rng, recipe.limits)?)
     }
 }

@@ -87,8 +87,8 @@ impl Graded for TentsPuzzle {
 
 impl Makable for TentsPuzzle {
     fn make(alloc: Global, size: &[u8], recipe: Recipe) -> Result<Made<TentsPuzzle>, Unmade> {
-        let (w, h, _) = read_size(Game::Tents, size)?;
-        let size = Size::new(w, h).unwrap();
+        let size = read_size(Game::Tents, size)?;
+        let size = Size::new(size.w, size.h).unwrap();
         let mut rng = generator(recipe.seed);
         Ok(make_tents(alloc, size, &mut rng, recipe.limits)?)
     }

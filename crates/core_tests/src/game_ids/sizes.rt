@@ -78,6 +78,7 @@ static SIZES: [(Game, &str, Result<(u8, u8, bool), IdFault>); 29] = [
 #[test]
 fn sizes_are_read(rt: HostRuntime) {
     for &(game, text, size) in SIZES.iter() {
-        assert_eq!(rt; read_size(game, text.as_bytes()), size, "{game:?} {text}");
+        let found = read_size(game, text.as_bytes()).map(|size| (size.w, size.h, size.x));
+        assert_eq!(rt; found, size, "{game:?} {text}");
     }
 }

@@ -1,13 +1,13 @@
 //! The part of an ID before its colon.
 
-ghost use Rattle.std.specs.Prelude.{◌≡◌, ◌==◌, position, ◌≤◌, drop, length, true, if◌then◌else◌, Ok, Err, IfOk, IfErr};
+ghost use Rattle.std.specs.Prelude.{◌≡◌, ◌==◌, position, ◌≤◌, drop, length, true, false, if◌then◌else◌, Ok, Err, IfOk, IfErr};
 ghost use Rattle.gameid_core.specs.Common.{has_x, head_at, head_of, head_read, in_range, side_at, sides_at, size_of, size_read};
 ghost use Rattle.gameid_core.specs.Head.{GivesSide, GivesSides};
 
 use crate::id::fault::IdFault;
 use crate::id::game::Game;
 use crate::text::number::leading_number;
-use grid_core::MAX_SIDE;
+use grid_core::{MAX_SIDE, Size};
 
 /// The most bytes of an ID.
 pub const MAX_ID: usize = 65_536;
@@ -25,12 +25,32 @@ struct SidesRead<'a> {
     rest: &'a [u8],
 }
 
-/// What stands before the colon, and the place where the description begins.
+/// A size: columns and rows, in Solo of sub-blocks, and whether the `x` of Solo X stands after
+/// them, which says that both main diagonals, too, hold every number once.
+#[derive(Clone, Copy, Debug, PartialEq, Eq)]
+pub struct SizeRead {
+    pub w: u8,
+    pub h: u8,
+    pub x: bool,
+}
+
+impl SizeRead {
+    /// The size of a grid, in each game but Solo.
+    pub(crate) fn of_cells(size: Size) -> SizeRead
+        ensures { result ≡ size_read size.w size.h false }
+    {
+        SizeRead {
+            w: size.w(),
+            h: size.h(),
+            x: false,
+        }
+    }
+}
+
+/// The size before the colon, and the place where the description begins.
 #[derive(Clone, Copy, Debug)]
 pub(crate) struct Head {
-    pub(crate) w: u8,
-    pub(crate) h: u8,
-    pub(crate) x: bool,
+    pub(crate) size: SizeRead,
     pub(crate) description: usize,
 }
 
@@ -71,8 +91,7 @@ fn sides(game: Game, text: &[u8]) -> Result<SidesRead<'_>, IdFault>
 
 /// The size that the whole text is, in the form of Simon Tatham's Portable Puzzle Collection: `CxR`
 /// for Solo, columns and rows of sub-blocks; `WxH` for the other games, columns and rows of cells;
-/// or one number for two equal ones. In Solo an `x` may stand after two numbers. The answer's third
-/// part is whether it does, which is Solo X: both main diagonals, too, hold every number once.
+/// or one number for two equal ones. In Solo an `x` may stand after two numbers.
 ///
 /// # Errors
 ///
@@ -81,10 +100,10 @@ fn sides(game: Game, text: &[u8]) -> Result<SidesRead<'_>, IdFault>
 /// size is outside the game's limits: sides from 2 on with a product of at most 31 in Solo, sides
 /// from 1 to 120 in Pattern, and from 2 to 120 in Light Up and Tents.
 #[tactic(auto, unfolding(crate::specs::Head::size_of))]
-pub fn read_size(game: Game, text: &[u8]) -> Result<(u8, u8, bool), IdFault>
-    ensures found { IfOk result (λ s. size_of game text.now ≡ Ok (size_read s.0 s.1 s.2)) }
+pub fn read_size(game: Game, text: &[u8]) -> Result<SizeRead, IdFault>
+    ensures found { IfOk result (λ size. size_of game text.now ≡ Ok size) }
     ensures fault { IfErr result (λ f. size_of game text.now ≡ Err f) }
-    ensures range { IfOk result (λ s. in_range game s.0 s.1 ≡ true) }
+    ensures range { IfOk result (λ size. in_range game size.w size.h ≡ true) }
 {
     let SidesRead { w, h, x, rest } = sides(game, text)?;
     if !rest.is_empty() {
@@ -97,7 +116,11 @@ pub fn read_size(game: Game, text: &[u8]) -> Result<(u8, u8, bool), IdFault>
         Game::LightUp | Game::Tents => w >= 2 && h >= 2 && w <= most && h <= most,
     };
     if fits {
-        Ok((w as u8, h as u8, x))
+        Ok(SizeRead {
+            w: w as u8,
+            h: h as u8,
+            x,
+        })
     } else {
         Err(IdFault::SizeRange)
     }
@@ -115,7 +138,7 @@ fn colon_in(text: &[u8]) -> Option<usize>
 pub(crate) fn read_head(game: Game, text: &[u8]) -> Result<Head, IdFault>
     ensures found { IfOk result (λ head. head_of game text.now ≡ Ok (head_read head)) }
     ensures fault { IfErr result (λ f. head_of game text.now ≡ Err f) }
-    ensures range { IfOk result (λ head. in_range game head.w head.h ≡ true) }
+    ensures range { IfOk result (λ head. in_range game head.size.w head.size.h ≡ true) }
     ensures within { IfOk result (λ head. head.description ≤ length text.now) }
     ensures short { IfOk result (λ head. length text.now ≤ MAX_ID) }
 {
@@ -133,12 +156,8 @@ pub(crate) fn read_head(game: Game, text: &[u8]) -> Result<Head, IdFault>
     if before.contains(&b'#') {
         return Err(IdFault::SeedId);
     }
-    let (w, h, x) = read_size(game, before)?;
-    let description = colon + 1;
     Ok(Head {
-        w,
-        h,
-        x,
-        description,
+        size: read_size(game, before)?,
+        description: colon + 1,
     })
 }

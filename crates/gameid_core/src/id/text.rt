@@ -2,11 +2,11 @@
 //! reader and one writer serve all.
 
 ghost use Rattle.std.specs.Prelude.{◌≡◌, ℕ, ◌<◌, ◌+◌, ◌^◌, ◌++◌, List, Result, Err, true, length, string_bytes, IfOk, OnOk};
-ghost use Rattle.gameid_core.specs.Common.{Adds, Game, Gives, HeadRead, IdFault, SizeRead, head_of, head_read, id_text, in_range, puzzle_read, size_read};
+ghost use Rattle.gameid_core.specs.Common.{Adds, Game, Gives, HeadRead, IdFault, SizeRead, head_of, head_read, id_text, in_range, puzzle_read};
 
 use crate::id::fault::IdFault;
 use crate::id::game::Game;
-use crate::id::head::{Head, read_head};
+use crate::id::head::{Head, SizeRead, read_head};
 use crate::text::writing::push_size;
 use std::alloc::{AllocError, Global};
 
@@ -31,13 +31,13 @@ pub(crate) trait IdText: Sized {
 
     /// Reads the description behind a head.
     fn read_description(alloc: Global, head: Head, description: &[u8]) -> Result<Self, IdFault>
-        requires range { in_range GAME head.w head.h ≡ true }
+        requires range { in_range GAME head.size.w head.size.h ≡ true }
         requires place { head.description + length description.now < 2 ^ 32 }
         ensures { Gives (λ p. p) result (behind (head_read head) description.now) };
 
-    /// Both numbers of the size, and whether the `x` of Solo X stands after them.
-    fn id_size(&self) -> (u8, u8, bool)
-        ensures size { size_read result.0 result.1 result.2 ≡ size self.now }
+    /// The size before the colon.
+    fn id_size(&self) -> SizeRead
+        ensures size { result ≡ size self.now }
         ensures lawful { lawful self.now };
 
     /// Writes the description.
@@ -61,9 +61,8 @@ pub(crate) fn write_id<P: IdText>(alloc: Global, puzzle: &P) -> Result<String, A
         ≡ id_text (P.size puzzle.now) (P.text puzzle.now)) }
     ensures lawful { P.lawful puzzle.now }
 {
-    let (w, h, x) = puzzle.id_size();
     let mut out = String::new(alloc);
-    push_size(&mut out, w, h, x)?;
+    push_size(&mut out, puzzle.id_size())?;
     out.push(':')?;
     puzzle.push_description(&mut out)?;
     Ok(out)

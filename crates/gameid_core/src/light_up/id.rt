@@ -7,12 +7,12 @@ ghost use Rattle.gameid_core.specs.declared.id.game.Game.TheVariants as game;
 
 use crate::id::fault::IdFault;
 use crate::id::game::Game;
-use crate::id::head::Head;
+use crate::id::head::{Head, SizeRead};
 use crate::id::text::{IdText, read_id, write_id};
 use crate::light_up::cell::LightCell;
 use crate::light_up::puzzle::LightPuzzle;
 use crate::text::runs::push_run;
-use crate::text::writing::{push_letter, push_size};
+use crate::text::writing::push_letter;
 use grid_core::{Fixed, Size};
 use std::alloc::{AllocError, Global};
 
@@ -110,7 +110,7 @@ impl IdText for LightPuzzle {
 
     #[tactic(auto, using(crate::proofs::LightTexts::fit))]
     fn read_description(alloc: Global, head: Head, description: &[u8]) -> Result<Self, IdFault> {
-        let size = Size::new(head.w, head.h).unwrap();
+        let size = Size::new(head.size.w, head.size.h).unwrap();
         let cells = cells(alloc, size.cells(), head.description, description)?;
         Ok(LightPuzzle {
             size,
@@ -118,8 +118,8 @@ impl IdText for LightPuzzle {
         })
     }
 
-    fn id_size(&self) -> (u8, u8, bool) {
-        (self.size().w(), self.size().h(), false)
+    fn id_size(&self) -> SizeRead {
+        SizeRead::of_cells(self.size())
     }
 
     fn push_description(&self, out: &mut String) -> Result<(), AllocError> {

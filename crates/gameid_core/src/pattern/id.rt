@@ -8,12 +8,12 @@ ghost use Rattle.gameid_core.specs.declared.id.game.Game.TheVariants as game;
 
 use crate::id::fault::IdFault;
 use crate::id::game::Game;
-use crate::id::head::Head;
+use crate::id::head::{Head, SizeRead};
 use crate::id::text::{IdText, read_id, write_id};
 use crate::pattern::clues::Clues;
 use crate::pattern::puzzle::PatternPuzzle;
 use crate::text::number::{leading_number, starts_with_digit};
-use crate::text::writing::{push_number, push_size};
+use crate::text::writing::push_number;
 use grid_core::{Size, line_count, line_len};
 use std::alloc::{AllocError, Global};
 
@@ -157,13 +157,13 @@ impl IdText for PatternPuzzle {
     ghost text = { λ p. join_with_byte 47 (map clue_text p.clues) };
 
     fn read_description(alloc: Global, head: Head, description: &[u8]) -> Result<Self, IdFault> {
-        let size = Size::new(head.w, head.h).unwrap();
+        let size = Size::new(head.size.w, head.size.h).unwrap();
         let clues = clues(alloc, size, head.description, description)?;
         Ok(PatternPuzzle { size, clues })
     }
 
-    fn id_size(&self) -> (u8, u8, bool) {
-        (self.size().w(), self.size().h(), false)
+    fn id_size(&self) -> SizeRead {
+        SizeRead::of_cells(self.size())
     }
 
     fn push_description(&self, out: &mut String) -> Result<(), AllocError> {

@@ -7,12 +7,12 @@ ghost use Rattle.gameid_core.specs.declared.id.game.Game.TheVariants as game;
 
 use crate::id::fault::IdFault;
 use crate::id::game::Game;
-use crate::id::head::Head;
+use crate::id::head::{Head, SizeRead};
 use crate::id::text::{IdText, read_id, write_id};
 use crate::solo::puzzle::SoloPuzzle;
 use crate::text::number::leading_number;
 use crate::text::runs::push_run;
-use crate::text::writing::{push_letter, push_number, push_size};
+use crate::text::writing::{push_letter, push_number};
 use grid_core::Fixed;
 use std::alloc::{AllocError, Global};
 
@@ -95,7 +95,7 @@ impl IdText for SoloPuzzle {
 
     #[tactic(auto, using(crate::proofs::SoloTexts::n_few), unfolding(crate::specs::Steps::reading, crate::specs::Words::words))]
     fn read_description(alloc: Global, head: Head, description: &[u8]) -> Result<Self, IdFault> {
-        let n = head.w * head.h;
+        let n = head.size.w * head.size.h;
         let all = usize::from(n) * usize::from(n);
         let mut givens = Vec::with_capacity(alloc, all)?;
         let mut rest = description;
@@ -112,15 +112,19 @@ impl IdText for SoloPuzzle {
             return Err(IdFault::TooFew);
         }
         Ok(SoloPuzzle {
-            c: head.w,
-            r: head.h,
-            x: head.x,
+            c: head.size.w,
+            r: head.size.h,
+            x: head.size.x,
             givens: Fixed::of(givens),
         })
     }
 
-    fn id_size(&self) -> (u8, u8, bool) {
-        (self.c(), self.r(), self.x())
+    fn id_size(&self) -> SizeRead {
+        SizeRead {
+            w: self.c(),
+            h: self.r(),
+            x: self.x(),
+        }
     }
 
     fn push_description(&self, out: &mut String) -> Result<(), AllocError> {

@@ -7,12 +7,12 @@ ghost use Rattle.gameid_core.specs.declared.id.game.Game.TheVariants as game;
 
 use crate::id::fault::IdFault;
 use crate::id::game::Game;
-use crate::id::head::Head;
+use crate::id::head::{Head, SizeRead};
 use crate::id::text::{IdText, read_id, write_id};
 use crate::tents::puzzle::TentsPuzzle;
 use crate::text::number::{leading_number, starts_with_digit};
 use crate::text::runs::push_run;
-use crate::text::writing::{push_number, push_size};
+use crate::text::writing::push_number;
 use grid_core::{Fixed, Size, line_count, line_len};
 use std::alloc::{AllocError, Global};
 
@@ -191,7 +191,7 @@ impl IdText for TentsPuzzle {
 
     #[tactic(auto, using(crate::proofs::TentsTexts::fit))]
     fn read_description(alloc: Global, head: Head, description: &[u8]) -> Result<Self, IdFault> {
-        let size = Size::new(head.w, head.h).unwrap();
+        let size = Size::new(head.size.w, head.size.h).unwrap();
         let (mut places, counts) = parts(alloc, size, head.description, description)?;
         places.truncate(size.cells());
         Ok(TentsPuzzle {
@@ -201,8 +201,8 @@ impl IdText for TentsPuzzle {
         })
     }
 
-    fn id_size(&self) -> (u8, u8, bool) {
-        (self.size().w(), self.size().h(), false)
+    fn id_size(&self) -> SizeRead {
+        SizeRead::of_cells(self.size())
     }
 
     fn push_description(&self, out: &mut String) -> Result<(), AllocError> {

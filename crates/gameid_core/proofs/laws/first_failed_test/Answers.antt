@@ -1,4 +1,4 @@
-use Rattle.gameid_core.proofs.HeadLaws.{head_exact, size_exact}
+use Rattle.gameid_core.proofs.HeadFaults.{head_exact, size_exact}
 use Rattle.gameid_core.proofs.laws.first_failed_test.Goals as goal
 
 pub returns-clause-size : goal.returns-clause-size
