@@ -57,7 +57,8 @@ pub(crate) fn turn_line<W: Word>(
     value: u8,
     bits: W,
 )
-    requires { HasRoomForTaking W.room rows.old.items columns.old.items (taking W.bits line value bits) }
+    requires { HasRoomForTaking W.room rows.old.items columns.old.items
+        (taking W.bits line value bits) }
     ensures turned { IsTurned W.bits line value bits rows.old columns.old rows.new columns.new }
     ensures tall { length rows.new.items ≡ length rows.old.items }
     ensures wide { length columns.new.items ≡ length columns.old.items }
