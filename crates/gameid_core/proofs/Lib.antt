@@ -1,5 +1,6 @@
 pub mod Reading
 pub mod LineLaws
+pub mod DigitLaws
 pub mod FirstFailed
 pub mod GameLaws
 pub mod HeadFaults

@@ -15,3 +15,4 @@ pub mod SoloText
 pub mod LightText
 pub mod TentsText
 pub mod Common
+pub mod Waiting

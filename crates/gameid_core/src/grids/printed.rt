@@ -1,9 +1,10 @@
 //! Puzzles whose grids can be printed.
-ghost use Rattle.std.specs.Prelude.{◌≡◌, ◌*◌, ◌<◌, ◌++◌, ℕ, List, length, OnOk, string_bytes};
-ghost use Rattle.gameid_core.specs.Common.{Adds, Extent, IsExtent, IsGrid};
+ghost use Rattle.std.specs.Prelude.{◌≡◌, ◌+◌, ◌*◌, ◌<◌, ◌≤◌, ◌++◌, ℕ, List, length};
+ghost use Rattle.gameid_core.specs.Common.{Extent, IsExtent, IsGrid};
+ghost use Rattle.gameid_core.specs.Waiting.{piece_room};
 
+use crate::text::piece::Piece;
 use grid_core::{Grid, Size};
-use std::alloc::AllocError;
 
 /// A puzzle whose grids can be printed. A grid has a number for each cell, by place. What the numbers
 /// mean, and what is printed of them, stands with each game.
@@ -37,10 +38,11 @@ pub trait Printed {
         usize::from(self.grid_size().h())
     }
 
-    /// Adds to a text what is printed of the grid at a place.
-    fn push_cell(&self, text: &mut String, grid: &Grid, place: usize) -> Result<(), AllocError>
+    /// Adds what is printed of the grid at a place: three bytes at most.
+    fn push_cell(&self, piece: &mut Piece, grid: &Grid, place: usize)
         requires grid { IsGrid ((extent self.now).w * (extent self.now).h)
             (value_count self.now) grid.now }
         requires place { place < length grid.now }
-        ensures { OnOk result (Adds (cell_text self.now grid.now place) text.old text.new) };
+        requires room { length piece.old + 3 ≤ piece_room }
+        ensures { piece.new ≡ piece.old ++ cell_text self.now grid.now place };
 }

@@ -6,6 +6,7 @@ ghost use Rattle.gameid_core.specs.Common.{Adds};
 ghost use Rattle.gameid_core.specs.PrintedForm.{IsGridIn, printed_grid};
 
 use crate::grids::printed::Printed;
+use crate::text::piece::Piece;
 use grid_core::Grid;
 use std::alloc::AllocError;
 
@@ -17,11 +18,14 @@ pub fn push_grid<P: Printed>(text: &mut String, puzzle: &P, grid: &Grid) -> Resu
 {
     let size = puzzle.grid_size();
     let w = usize::from(size.w());
+    let mut piece = Piece::new();
     for y in 0..usize::from(size.h()) {
         for x in 0..w {
-            puzzle.push_cell(text, grid, y * w + x)?;
+            piece.make_room(text)?;
+            puzzle.push_cell(&mut piece, grid, y * w + x);
         }
-        text.push('\n')?;
+        piece.make_room(text)?;
+        piece.push(b'\n');
     }
-    Ok(())
+    piece.flush(text)
 }

@@ -7,9 +7,8 @@ use crate::grids::printed::Printed;
 use crate::grids::readable::{Readable, read_hidden, read_symbol};
 use crate::light_up::cell::LightCell;
 use crate::light_up::puzzle::LightPuzzle;
-use crate::text::writing::push_number;
+use crate::text::piece::Piece;
 use grid_core::{Grid, Size};
-use std::alloc::AllocError;
 
 impl Printed for LightPuzzle {
     ghost extent = { λ p. p.size };
@@ -22,12 +21,13 @@ impl Printed for LightPuzzle {
         self.size()
     }
 
-    fn push_cell(&self, text: &mut String, grid: &Grid, place: usize) -> Result<(), AllocError> {
-        match self.cells()[place] {
-            LightCell::White if grid.get(place) == 1 => text.push('O'),
-            LightCell::White => text.push('.'),
-            LightCell::Black => text.push('#'),
-            LightCell::Numbered(number) => push_number(text, number),
+    #[tactic(auto, using(crate::proofs::DigitLaws::digits))]
+    fn push_cell(&self, piece: &mut Piece, grid: &Grid, place: usize) {
+        match self.cell(place) {
+            LightCell::White if grid.get(place) == 1 => piece.push(b'O'),
+            LightCell::White => piece.push(b'.'),
+            LightCell::Black => piece.push(b'#'),
+            LightCell::Numbered(number) => piece.push(b'0' + number),
         }
     }
 }

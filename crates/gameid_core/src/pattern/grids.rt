@@ -7,8 +7,8 @@ ghost use Rattle.gameid_core.specs.PatternText.{pattern_cell};
 use crate::grids::printed::Printed;
 use crate::grids::readable::{Readable, read_symbol};
 use crate::pattern::puzzle::PatternPuzzle;
+use crate::text::piece::Piece;
 use grid_core::{Grid, Size};
-use std::alloc::AllocError;
 
 impl Printed for PatternPuzzle {
     ghost extent = { λ p. p.size };
@@ -21,12 +21,9 @@ impl Printed for PatternPuzzle {
         self.size()
     }
 
-    fn push_cell(&self, text: &mut String, grid: &Grid, place: usize) -> Result<(), AllocError> {
-        if grid.get(place) == 1 {
-            text.push('#')
-        } else {
-            text.push('.')
-        }
+    fn push_cell(&self, piece: &mut Piece, grid: &Grid, place: usize) {
+        let black = grid.get(place) == 1;
+        piece.push(if black { b'#' } else { b'.' });
     }
 }
 

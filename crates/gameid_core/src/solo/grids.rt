@@ -10,9 +10,8 @@ use crate::grids::printed::Printed;
 use crate::grids::readable::Readable;
 use crate::solo::puzzle::SoloPuzzle;
 use crate::text::number::leading_number;
-use crate::text::writing::push_number;
+use crate::text::piece::Piece;
 use grid_core::{Grid, Size};
-use std::alloc::AllocError;
 
 impl Printed for SoloPuzzle {
     ghost extent = { solo_extent };
@@ -25,11 +24,11 @@ impl Printed for SoloPuzzle {
         Size::new(self.n(), self.n()).unwrap()
     }
 
-    fn push_cell(&self, text: &mut String, grid: &Grid, place: usize) -> Result<(), AllocError> {
+    fn push_cell(&self, piece: &mut Piece, grid: &Grid, place: usize) {
         if place % usize::from(self.n()) != 0 {
-            text.push(' ')?;
+            piece.push(b' ');
         }
-        push_number(text, grid.get(place) + 1)
+        piece.push_number(grid.get(place) + 1);
     }
 }
 

@@ -6,8 +6,8 @@ ghost use Rattle.gameid_core.specs.TentsText.{tent_hides, tents_cell};
 use crate::grids::printed::Printed;
 use crate::grids::readable::{Readable, read_hidden, read_symbol};
 use crate::tents::puzzle::TentsPuzzle;
+use crate::text::piece::Piece;
 use grid_core::{Grid, Size};
-use std::alloc::AllocError;
 
 impl Printed for TentsPuzzle {
     ghost extent = { λ p. p.size };
@@ -20,15 +20,10 @@ impl Printed for TentsPuzzle {
         self.size()
     }
 
-    fn push_cell(&self, text: &mut String, grid: &Grid, place: usize) -> Result<(), AllocError> {
-        if self.trees()[place] == 1 {
-            return text.push('T');
-        }
-        if grid.get(place) == 1 {
-            text.push('^')
-        } else {
-            text.push('.')
-        }
+    fn push_cell(&self, piece: &mut Piece, grid: &Grid, place: usize) {
+        let free = if grid.get(place) == 1 { b'^' } else { b'.' };
+        let tree = self.trees()[place] == 1;
+        piece.push(if tree { b'T' } else { free });
     }
 }
 
