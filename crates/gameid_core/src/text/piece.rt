@@ -67,7 +67,8 @@ impl Piece {
     /// Has room for three more bytes: where there was none, the bytes go into the text.
     #[inline(always)]
     pub(crate) fn make_room(&mut self, text: &mut String) -> Result<(), AllocError>
-        ensures kept { OnOk result (string_bytes text.new ++ self.new ≡ string_bytes text.old ++ self.old) }
+        ensures kept { OnOk result
+            (string_bytes text.new ++ self.new ≡ string_bytes text.old ++ self.old) }
         ensures room { OnOk result (length self.new + 3 ≤ piece_room) }
     {
         if self.len > ROOM - 3 {
