@@ -10,7 +10,7 @@ ghost use Rattle.solo_core.specs.Common.{has_bit as is_set, has_in};
 ghost use Rattle.solo_core.specs.OpenHouses.{AreWholeOutside, IsOpenHouse, IsVisitedOpen, ListsBits};
 ghost use Rattle.solo_core.specs.PeeledHouses.{AreAllCounts, AreLone, AreMetOutside, AreSettledCells, IsPeeled, IsRest, KeepsOthers};
 
-use crate::visits::bits::{first_bit, others_below, with_bit, without};
+use crate::visits::bits::{first_bit, others_below, without_first};
 use crate::visits::houses::keep_counted;
 use crate::visits::open::OpenHouse;
 use crate::visits::peel::Counts;
@@ -98,7 +98,7 @@ fn strike_open(
     let (mut count, mut is_struck) = (0, false);
     let mut left = house.cells;
     while let Some(cell) = first_bit(left) {
-        left = without(left, with_bit(0, cell));
+        left = without_first(left);
         rest[count] = cell as u8;
         count += 1;
         let set = sets[cell] & house.values;

@@ -1,9 +1,9 @@
 use Rattle.solo_core.proofs.Common.{AreSettledBut, arith, bit_and, both-bits, length, length-set, nat_tests, refl, slice_index, take, ◌∙◌, ◌≡◌}
 use Rattle.solo_core.specs.Bits.{NoneIsSet}
 use Rattle.solo_core.specs.OpenHouses.{ListsBits}
-use Rattle.solo_core.proofs.OpenLemmas.{one-bit, open-settled}
+use Rattle.solo_core.proofs.OpenLemmas.{open-settled}
 use Rattle.solo_core.proofs.OpenListLemmas.{left-first, left-in, left-more, left-next, left-none, set_below, set_below-few, set_below-lists}
-use Rattle.solo_core.proofs.SettledLemmas.{AreStruck, struck-counts, struck-first, struck-lone, struck-more, struck-outside, struck-peeled, struck-rest, struck-settled}
+use Rattle.solo_core.proofs.SettledLemmas.{AreStruck, same-if, struck-counts, struck-first, struck-lone, struck-more, struck-outside, struck-peeled, struck-rest, struck-settled}
 use Rattle.solo_core.proofs.visits.gather.strike_open.Goals as goal
 use Rattle.solo_core.proofs.visits.gather.strike_open.Goals.{After-of_settled-counts, At-loop-cell}
 
@@ -35,13 +35,12 @@ loop-cell-preserved c =
     let set = bit_and (slice_index c.loop-cell.sets cell) open_values in
     record {
       room = length-set c.loop-cell.rest c.loop-cell.count cell ∙ i.room;
-      left = left-more (lists d) i.left next.0 next.1 (omega (arith, next.0, few, i.room, c.requires.room))
-          (λ j. let w = c.without-left.ensures j in let one = one-bit _ cell c.with_bit.ensures j in grind arith);
+      left = left-more (lists d) i.left next.0 next.1 (omega (arith, next.0, few, i.room, c.requires.room)) (c.without_first-left.ensures cell at);
       struck = struck-more (settled d) i.struck next.0 next.1 set open_values
           (both-bits (slice_index c.loop-cell.sets cell) open_values)
           (λ v lv off. let e = c.requires.settled v in grind (arith, nat_tests))
           (λ v on. let e = c.requires.settled v in grind (arith, nat_tests))
-          c.with-counts.ensures.some c.with-counts.ensures.single c.with-counts.ensures.shared (λ off. (grind (arith, nat_tests), grind (arith, nat_tests)));
+          c.with-counts.ensures.some c.with-counts.ensures.single c.with-counts.ensures.shared (same-if _ _ _);
     }
 
 pub bounds-rest-count : goal.bounds-rest-count
