@@ -88,7 +88,7 @@ module _ (K : Candidates) (n : ℕ) (places : List ℕ) {values : ℕ} (square :
         let l : j < n = omega (arith, many) in
         let m : k < n = omega (arith, many) in
         o.different j k (value j) l m (zero-bits j) (zero-bits k) ((own-is j l).1 (value j) ∙ eq-eqb (value j) (value j) refl)
-            ((own-is k m).1 (value j) ∙ eq-eqb (value j) (value k) (sym (mate-is j l) ∙ same ∙ mate-is k m));
+        ((own-is k m).1 (value j) ∙ eq-eqb (value j) (value k) (sym (mate-is j l) ∙ same ∙ mate-is k m));
   }
 
   pub closed-bits : AreBitsAt n places K closed-sets
