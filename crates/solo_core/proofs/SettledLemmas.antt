@@ -3,7 +3,7 @@ use Rattle.std.proofs.lemmas.Grind.{common_steps}
 use Rattle.std.specs.Prelude.{count_ones}
 use Rattle.std.proofs.lemmas.Nat.{ones_le_self}
 use Rattle.std.proofs.lemmas.Bool.{ltb-true}
-use Rattle.solo_core.proofs.Common.{and_parts, nat_tests, ◌&&◌, ltb, lt-ltb, ◌^◌, ◌≤◌, AreSettledBut, IsOutside, IsPassedCell, IsPeeled, IsRest, IsSingleSet, List, [], ap, arith, cases_Bool, cases_eq, cases_lt, eq-eqb, eqb, eqb-true, false, false_from_ne_true, get_or_append_left, get_or_push, has_bit, has_in, inl, inr, length, length-append, not, or_cases, refl, slice_index, sym, true, true_from_ne_false, true≢false, zero-bits, ℕ, ◌++◌, ◌+◌, ◌<◌, ◌||◌, ◌∙◌, ◌∷◌, ◌≡◌}
+use Rattle.solo_core.proofs.Common.{and_parts, nat_tests, ◌&&◌, ltb, lt-ltb, ◌^◌, ◌≤◌, AreSettledBut, IsOutside, IsPassedCell, IsPeeled, IsRest, IsSingleSet, List, [], ap, arith, cases_Bool, cases_eq, cases_lt, eq-eqb, eqb-true, false, false_from_ne_true, get_or_append_left, get_or_push, has_bit, has_in, inl, inr, length, length-append, not, or_cases, refl, slice_index, sym, true, true_from_ne_false, true≢false, zero-bits, ℕ, ◌++◌, ◌+◌, ◌<◌, ◌||◌, ◌∙◌, ◌∷◌, ◌≡◌}
 use Rattle.solo_core.proofs.BitLemmas.{none_in_zero, one_value, ones_or}
 use Rattle.solo_core.proofs.MateLemmas.{in_or_out}
 use Rattle.solo_core.proofs.Common.{AreAllCounts, AreLone, AreMetOutside, AreSettledCells, Bool, slice_set, ◌⊎◌}
