@@ -3,11 +3,15 @@ use Rattle.std.proofs.lemmas.Grind.{common_steps}
 use Rattle.std.specs.Prelude.{count_ones}
 use Rattle.std.proofs.lemmas.Nat.{ones_le_self}
 use Rattle.std.proofs.lemmas.Bool.{ltb-true}
-use Rattle.solo_core.proofs.Common.{and_parts, nat_tests, ◌&&◌, ltb, lt-ltb, ◌^◌, ◌≤◌, AreSettledBut, IsOutside, IsPassedCell, IsPeeled, IsRest, IsSingleSet, List, [], ap, arith, cases_Bool, cases_eq, cases_lt, eq-eqb, eqb-true, false, false_from_ne_true, get_or_append_left, get_or_push, has_bit, has_in, inl, inr, length, length-append, or_cases, refl, slice_index, sym, true, true_from_ne_false, true≢false, zero-bits, ℕ, ◌++◌, ◌+◌, ◌<◌, ◌||◌, ◌∙◌, ◌∷◌, ◌≡◌}
+use Rattle.solo_core.proofs.Common.{and_parts, nat_tests, ◌&&◌, ltb, lt-ltb, ◌^◌, ◌≤◌, AreSettledBut, IsOutside, IsPassedCell, IsPeeled, IsRest, IsSingleSet, List, [], ap, arith, cases_Bool, cases_eq, cases_lt, eq-eqb, eqb-true, false, false_from_ne_true, get_or_append_left, get_or_push, has_bit, has_in, inl, inr, length, length-append, not, or_cases, refl, slice_index, sym, true, true_from_ne_false, true≢false, zero-bits, ℕ, ◌++◌, ◌+◌, ◌<◌, ◌||◌, ◌∙◌, ◌∷◌, ◌≡◌}
 use Rattle.solo_core.proofs.BitLemmas.{none_in_zero, one_value, ones_or}
 use Rattle.solo_core.proofs.MateLemmas.{in_or_out}
 use Rattle.solo_core.proofs.Common.{AreAllCounts, AreLone, AreMetOutside, AreSettledCells, Bool, slice_set, ◌⊎◌}
 use Rattle.std.proofs.lemmas.List.{set-get_or}
+use Rattle.std.proofs.lemmas.Nat.Bits.{bit_at-lt, same_from_bits}
+use Rattle.solo_core.proofs.Common.{bit_and, bit_at, bit_or, both-bits, either-bits, ne_eqb}
+use Rattle.std.proofs.lemmas.Bool.{eqb-false}
+use Rattle.std.proofs.Math.Bool.{or-true}
 use Rattle.solo_core.proofs.NarrowLemmas.{IsNarrowed, narrowed-before, narrowed-here, narrowed-more, narrowed-none}
 use Rattle.solo_core.proofs.PeelLemmas.{counts-more, counts-same, rest-lone, rest-met, settled-peeled}
 
@@ -201,6 +205,35 @@ module _ {values settled some single shared : ℕ} {old new rest : List ℕ} (s 
         };
   }
 
+-- each value that was had is kept
+abbrev pub AreAllKept : ℕ → ℕ → Type 0
+AreAllKept had kept = (v : ℕ) → has_bit had v ≡ true → has_bit kept v ≡ true
+
+-- then each set is the same, whatever else is struck
+kept-bit : (x kept v : ℕ) → AreAllKept x kept → bit_at (bit_and x kept) v ≡ bit_at x v
+kept-bit x kept v all = elim (cases_eq (bit_at x v) 1) [
+  | inl one ↦ let on = eqb-true (bit_at kept v) 1 (all v (eq-eqb (bit_at x v) 1 one)) in eqb-true _ 1 (both-bits x kept v ∙ rw (one, on) refl) ∙ sym one
+  | inr ne ↦
+      let off = ne_eqb (bit_at x v) 1 ne in
+      let none = eqb-false (bit_at (bit_and x kept) v) 1 (both-bits x kept v ∙ rw off refl) in
+      omega (arith, bit_at-lt x v, bit_at-lt (bit_and x kept) v, ne, none)
+]
+
+pub same-while : {sets old : List ℕ} (had kept cell : ℕ) → (AreAllKept had kept → sets ≡ old) → AreAllKept (bit_or had (slice_index sets cell)) kept
+    → slice_set sets cell (bit_and (slice_index sets cell) kept) ≡ old
+same-while {sets} {old} had kept cell same all =
+    let x = slice_index sets cell in
+    let e = same_from_bits (bit_and x kept) x (λ v. kept-bit x kept v (λ w on. all w (either-bits had x w ∙ rw on (or-true (has_bit had w))))) in
+    ap (slice_set sets cell) e ∙ set-get_or sets cell 0 ∙ same (λ v on. all v (either-bits had x v ∙ rw on refl))
+
+-- a set of which no value is left beside those that are kept
+pub kept-all : (had kept : ℕ) {gone : ℕ} → ((v : ℕ) → has_bit gone v ≡ (has_bit had v && not (has_bit kept v))) → gone ≡ 0 → AreAllKept had kept
+kept-all had kept {gone} is none v on =
+    let z = zero-bits v in
+    let e = is v in
+    let none_here = ap (λ x. has_bit x v) none in
+    grind (arith, nat_tests)
+
 -- the values of the settled cells were struck from the first i of the others, and all values are counted but those of the later ones
 pub record AreStruck (values settled : ℕ) (old sets rest : List ℕ) (i some single shared : ℕ) (struck : Bool) : Type 0 where
   pub narrowed : IsNarrowed (drops_settled settled) values old sets rest i some single shared
@@ -210,6 +243,9 @@ pub record AreStruck (values settled : ℕ) (old sets rest : List ℕ) (i some s
 module _ {values settled : ℕ} {old rest : List ℕ} (s : AreSettledBut values old rest (length old) settled) where
   pub struck-first : {some single shared : ℕ} → some ≡ settled → single ≡ settled → shared ≡ 0 → AreStruck values settled old old rest 0 some single shared false
   struck-first a b d = rw (a, b, d) (record { narrowed = narrowed-none s.counts; free = λ t v low. absurd (omega arith); same = λ off. refl })
+
+  pub struck-none : {some single shared : ℕ} → some ≡ settled → single ≡ settled → shared ≡ 0 → AreStruck values settled old old rest 0 some single shared true
+  struck-none a b d = let s = struck-first a b d in record { narrowed = s.narrowed; free = s.free; same = λ off. absurd (true≢false off) }
 
   -- one cell more, which keeps what is kept of all
   pub struck-more : {sets : List ℕ} {i some single shared cell : ℕ} {struck : Bool} → AreStruck values settled old sets rest i some single shared struck

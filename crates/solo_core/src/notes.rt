@@ -63,6 +63,9 @@ impl Notes<SoloFillings> for OpenNotes {
         work: &mut Pairing,
     ) -> Option<usize> {
         let (values, places, open) = (rules.values(), rules.places(house), self.houses[house]);
+        if open.cells == 0 {
+            return Some(0);
+        }
         visit_open(
             values,
             board,

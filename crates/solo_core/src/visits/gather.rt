@@ -10,7 +10,7 @@ ghost use Rattle.solo_core.specs.Common.{has_bit as is_set, has_in};
 ghost use Rattle.solo_core.specs.OpenHouses.{AreWholeOutside, IsOpenHouse, IsVisitedOpen, ListsBits};
 ghost use Rattle.solo_core.specs.PeeledHouses.{AreAllCounts, AreLone, AreMetOutside, AreSettledCells, IsPeeled, IsRest, KeepsOthers};
 
-use crate::visits::bits::{first_bit, others_below, with_bit, without};
+use crate::visits::bits::{first_bit, others_below, without, without_first};
 use crate::visits::houses::keep_counted;
 use crate::visits::open::OpenHouse;
 use crate::visits::peel::Counts;
@@ -95,16 +95,16 @@ fn strike_open(
     ensures others { KeepsOthers (take result.1 rest.new) sets.old sets.new }
 {
     let mut counts = Counts::of_settled(settled);
-    let (mut count, mut is_struck) = (0, false);
+    let (mut count, mut had) = (0, 0);
     let mut left = house.cells;
     while let Some(cell) = first_bit(left) {
-        left = without(left, with_bit(0, cell));
+        left = without_first(left);
         rest[count] = cell as u8;
         count += 1;
         let set = sets[cell] & house.values;
-        is_struck |= set != sets[cell];
+        had |= sets[cell];
         sets[cell] = set;
         counts = counts.with(set);
     }
-    (counts, count, is_struck)
+    (counts, count, without(had, house.values) != 0)
 }

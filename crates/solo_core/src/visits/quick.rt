@@ -1,11 +1,12 @@
 //! A pairing of the cells of a house with values that is found without a search.
 #![tactic(auto, using(crate::proofs::LawSets::quick_laws))]
 
-ghost use Rattle.std.specs.Prelude.{◌≡◌, ◌+◌, ◌<◌, ◌≤◌, OnSome, [], length, true};
+ghost use Rattle.std.specs.Prelude.{◌≡◌, ℕ, ◌+◌, ◌<◌, ◌≤◌, OnSome, [], length, true};
 ghost use Rattle.grid_core.specs.Candidates.{max_values};
+ghost use Rattle.solo_core.specs.Common.{has_bit as is_set};
 ghost use Rattle.solo_core.specs.QuickPairings.{AllPaired, FirstPaired, OneMorePaired};
 
-use crate::visits::bits::{all_below, next_bit, with_bit};
+use crate::visits::bits::{all_below, first_bit, with_bit};
 use crate::visits::graph::{CellValueGraph, MANY};
 use arrayvec::ArrayVec;
 use engine_core::has_bit;
@@ -37,13 +38,13 @@ fn give(
     requires few { length graph.now.rest.now ≤ max_values }
     requires i_in { i < length graph.now.rest.now }
     requires as_many { length mates.old.items ≡ i }
+    requires below { (v : ℕ) → is_set free v ≡ true → v < graph.now.values }
     requires begun { FirstPaired graph.now i mates.old.items free }
     ensures more { OnSome result (length mates.new.items ≡ i + 1) }
     ensures on { OneMorePaired graph.now i mates.new.items free result }
 {
     let set = graph.sets[usize::from(graph.rest[i])];
-    let end = usize::from(graph.values);
-    if let Some(value) = next_bit(set & free, 0, end) {
+    if let Some(value) = first_bit(set & free) {
         mates.push(value as u8);
         return Some(value);
     }
@@ -53,7 +54,7 @@ fn give(
             continue;
         }
         let other = graph.sets[usize::from(graph.rest[j])];
-        if let Some(value) = next_bit(other & free, 0, end) {
+        if let Some(value) = first_bit(other & free) {
             mates[j] = value as u8;
             mates.push(mate);
             return Some(value);

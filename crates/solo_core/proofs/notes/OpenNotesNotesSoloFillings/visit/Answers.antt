@@ -4,7 +4,7 @@ use Rattle.std.proofs.Math.Seq.{take-append_seam}
 use Rattle.grid_core.specs.Board.{has}
 use Rattle.grid_core.proofs.BoardLemmas.{has-within}
 use Rattle.solo_core.proofs.NoteLemmas.{noted-house}
-use Rattle.solo_core.proofs.OpenVisitLemmas.{dead-if, struck-if}
+use Rattle.solo_core.proofs.OpenVisitLemmas.{dead-if, marked-none, struck-if}
 use Rattle.solo_core.proofs.notes.OpenNotesNotesSoloFillings.visit.Goals as goal
 use Rattle.solo_core.proofs.notes.OpenNotesNotesSoloFillings.visit.Goals.{After-deref_mut-2}
 
@@ -33,6 +33,13 @@ visit_open-requires-clause-room c = omega (arith, c.deref_mut-2.ensures.len, c.r
 
 pub visit_open-requires-clause-house : goal.visit_open-requires-clause-house
 visit_open-requires-clause-house c = noted-house _ c.requires.noted c.args.house c.requires.house_in c.places-places.ensures c.values-values.ensures c.index.ensures
+
+pub returns-then-open-eq0-clause-struck : goal.returns-then-open-eq0-clause-struck
+returns-then-open-eq0-clause-struck c =
+    marked-none c.args.rules.now.set.puzzle c.args.rules.now.set.is_solo c.args.house c.requires.house_in _
+    (λ k v on. omega (arith, (has-within c.args.board.now k v on).1, c.requires.board_of.same_values)) c.values-values.ensures c.places-places.ensures
+    _ _ (omega (arith, c.requires.made.kept_in))
+    (rw c.if-open-eq0.true at (noted-house _ c.requires.noted c.args.house c.requires.house_in c.places-places.ensures c.values-values.ensures c.index.ensures))
 
 pub returns-clause-struck : goal.returns-clause-struck
 returns-clause-struck c =

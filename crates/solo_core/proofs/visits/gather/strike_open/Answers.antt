@@ -1,9 +1,9 @@
-use Rattle.solo_core.proofs.Common.{AreSettledBut, arith, bit_and, both-bits, length, length-set, nat_tests, refl, slice_index, take, ◌∙◌, ◌≡◌}
+use Rattle.solo_core.proofs.Common.{AreSettledBut, arith, bit_and, both-bits, length, length-set, nat_tests, refl, slice_index, take, true, true≢false, ◌∙◌, ◌≡◌}
 use Rattle.solo_core.specs.Bits.{NoneIsSet}
 use Rattle.solo_core.specs.OpenHouses.{ListsBits}
-use Rattle.solo_core.proofs.OpenLemmas.{one-bit, open-settled}
+use Rattle.solo_core.proofs.OpenLemmas.{open-settled}
 use Rattle.solo_core.proofs.OpenListLemmas.{left-first, left-in, left-more, left-next, left-none, set_below, set_below-few, set_below-lists}
-use Rattle.solo_core.proofs.SettledLemmas.{AreStruck, struck-counts, struck-first, struck-lone, struck-more, struck-outside, struck-peeled, struck-rest, struck-settled}
+use Rattle.solo_core.proofs.SettledLemmas.{AreStruck, kept-all, same-while, struck-counts, struck-lone, struck-more, struck-none, struck-outside, struck-peeled, struck-rest, struck-settled}
 use Rattle.solo_core.proofs.visits.gather.strike_open.Goals as goal
 use Rattle.solo_core.proofs.visits.gather.strike_open.Goals.{After-of_settled-counts, At-loop-cell}
 
@@ -20,7 +20,8 @@ loop-cell-init c =
     record {
       room = refl;
       left = left-first (lists d) c.args.rest.now;
-      struck = struck-first (settled d) c.of_settled-counts.ensures.some c.of_settled-counts.ensures.single c.of_settled-counts.ensures.shared;
+      struck = struck-none (settled d) c.of_settled-counts.ensures.some c.of_settled-counts.ensures.single c.of_settled-counts.ensures.shared;
+      same = λ _. refl;
     }
 
 pub loop-cell-preserved : goal.loop-cell-preserved
@@ -35,13 +36,13 @@ loop-cell-preserved c =
     let set = bit_and (slice_index c.loop-cell.sets cell) open_values in
     record {
       room = length-set c.loop-cell.rest c.loop-cell.count cell ∙ i.room;
-      left = left-more (lists d) i.left next.0 next.1 (omega (arith, next.0, few, i.room, c.requires.room))
-          (λ j. let w = c.without-left.ensures j in let one = one-bit _ cell c.with_bit.ensures j in grind arith);
+      left = left-more (lists d) i.left next.0 next.1 (omega (arith, next.0, few, i.room, c.requires.room)) (c.without_first-left.ensures cell at);
       struck = struck-more (settled d) i.struck next.0 next.1 set open_values
           (both-bits (slice_index c.loop-cell.sets cell) open_values)
           (λ v lv off. let e = c.requires.settled v in grind (arith, nat_tests))
           (λ v on. let e = c.requires.settled v in grind (arith, nat_tests))
-          c.with-counts.ensures.some c.with-counts.ensures.single c.with-counts.ensures.shared (λ off. (grind (arith, nat_tests), grind (arith, nat_tests)));
+          c.with-counts.ensures.some c.with-counts.ensures.single c.with-counts.ensures.shared (λ off. absurd (true≢false off));
+      same = same-while c.loop-cell.had open_values cell i.same;
     }
 
 pub bounds-rest-count : goal.bounds-rest-count
@@ -60,7 +61,7 @@ taken c none =
 
 struck : (c : At-loop-cell) → NoneIsSet c.loop-cell.left 0 32
     → AreStruck c.args.values c.args.settled c.args.sets.now c.loop-cell.sets (set_below c.args.house.cells c.args.values)
-    (length (set_below c.args.house.cells c.args.values)) c.loop-cell.counts.some c.loop-cell.counts.single c.loop-cell.counts.shared c.loop-cell.is_struck
+    (length (set_below c.args.house.cells c.args.values)) c.loop-cell.counts.some c.loop-cell.counts.single c.loop-cell.counts.shared true
 struck c none = rw (taken c none).0 at c.loop-cell.invariant.struck
 
 pub returns-clause-few : goal.returns-clause-few
@@ -117,6 +118,9 @@ returns-clause-outside c =
     let b = (goal.at.returns-clause-outside c).After-of_settled-counts in
     let none = c.in_default.ensures in
     rw (taken d none).1 (struck-outside (settled b) (struck d none))
+
+pub returns-clause-same : goal.returns-clause-same
+returns-clause-same c = λ off. c.loop-cell.invariant.same (kept-all c.loop-cell.had c.args.house.values c.without.ensures (grind (arith, nat_tests)))
 
 pub returns-clause-others : goal.returns-clause-others
 returns-clause-others c =

@@ -1,6 +1,6 @@
-use Rattle.solo_core.proofs.Common.{length, ◌-◌, ◌≡◌}
+use Rattle.solo_core.proofs.Common.{length, true, ◌-◌, ◌≡◌}
 use Rattle.solo_core.proofs.OpenListLemmas.{AreLeft, set_below}
-use Rattle.solo_core.proofs.SettledLemmas.{AreStruck}
+use Rattle.solo_core.proofs.SettledLemmas.{AreAllKept, AreStruck}
 use Rattle.solo_core.proofs.visits.gather.strike_open.Given as goal
 
 abbrev pub invariant-loop-cell : goal.invariant-loop-cell
@@ -9,7 +9,8 @@ invariant-loop-cell l =
     record {
       room : length l.rest ≡ length l.fn.rest;
       left : AreLeft list l.count l.left l.rest;
-      struck : AreStruck l.values l.settled l.fn.sets l.sets list l.count l.counts.some l.counts.single l.counts.shared l.is_struck;
+      struck : AreStruck l.values l.settled l.fn.sets l.sets list l.count l.counts.some l.counts.single l.counts.shared true;
+      same : AreAllKept l.had l.house.values → l.sets ≡ l.fn.sets;
     }
 
 abbrev pub decreases-loop-cell : goal.decreases-loop-cell

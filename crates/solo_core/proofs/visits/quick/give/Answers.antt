@@ -7,15 +7,15 @@ pub returns-in-Some-clause-on : goal.returns-in-Some-clause-on
 returns-in-Some-clause-on c =
     let at = c.in-Some.ensures in
     pushed_free c.args.graph.now.values c.args.graph.now.sets.now c.args.graph.now.rest.now c.args.i c.args.mates.now.items c.requires.as_many c.requires.begun
-    c.push.ensures.items (omega (arith, at.1)) (grind (arith, both-bits, at.2)) (grind (arith, both-bits, at.2))
+    c.push.ensures.items (c.requires.below _ (grind (arith, both-bits, at.2))) (grind (arith, both-bits, at.2)) (grind (arith, both-bits, at.2))
 
-pub returns-in-Some-next_bit-clause-on : goal.returns-in-Some-next_bit-clause-on
-returns-in-Some-next_bit-clause-on c =
+pub returns-in-Some-first_bit-clause-on : goal.returns-in-Some-first_bit-clause-on
+returns-in-Some-first_bit-clause-on c =
     let sets = c.args.graph.now.sets.now in
-    let at = c.in-Some-next_bit.ensures in
+    let at = c.in-Some-first_bit.ensures in
     let old = c.args.mates.now.items in
     let j = c.loop-j.j in
-    let v = c.in-Some-next_bit.value in
+    let v = c.in-Some-first_bit.value in
     let same = ap (λ m. m.items) c.loop-j.invariant in
     let mate : ℕ = slice_index c.deref.result.now j in
     let lent = c.deref_mut.ensures.value in
@@ -24,6 +24,6 @@ returns-in-Some-next_bit-clause-on c =
     pushed_swapped c.args.graph.now.values sets c.args.graph.now.rest.now c.args.i j old {mate = mate} c.requires.as_many c.requires.begun
     (omega arith)
     (ap (λ xs. slice_index xs j) (c.deref.ensures.0 ∙ same))
-    (c.push-in-Some-next_bit.ensures.items ∙ ap (λ xs. xs ++ mate ∷ []) (items-with_items c.loop-j.mates written long ∙ ap (λ xs. slice_set xs j v) (lent ∙ same)))
-    (omega (arith, at.1)) (grind (arith, both-bits, at.2)) (grind (arith, both-bits, at.2))
+    (c.push-in-Some-first_bit.ensures.items ∙ ap (λ xs. xs ++ mate ∷ []) (items-with_items c.loop-j.mates written long ∙ ap (λ xs. slice_set xs j v) (lent ∙ same)))
+    (c.requires.below _ (grind (arith, both-bits, at.2))) (grind (arith, both-bits, at.2)) (grind (arith, both-bits, at.2))
     (ap (λ (at : ℕ). has_bit (slice_index sets at) mate) (sym c.from.ensures) ∙ sym c.has_bit.ensures ∙ c.if-not-has_bit.false)
