@@ -39,6 +39,16 @@ class Clause:
     sign: int
 
 
+@dataclasses.dataclass(frozen=True)
+class Part:
+    """What a call can stand for: its lines, what stands before the call and behind it, and the term."""
+    start: int
+    end: int
+    head: str
+    tail: str
+    term: str
+
+
 def tables(common):
     names, facts = set(), {}
     for path in TOP.glob("crates/*/*/**/*.antt"):
@@ -112,6 +122,44 @@ def clauses(lines):
             at += 1
 
 
+def is_whole(term):
+    """Whether each bracket of a term is closed in it."""
+    return all(term.count(sign) == term.count(other) for sign, other in ("()", "[]", "{}"))
+
+
+def part_end(lines, at, clause):
+    """The line behind what begins at a line of a clause, by depth; a bracket that it opens is closed at its own depth."""
+    end, depth = at + 1, indent(lines[at])
+    while end < clause.end and (not lines[end].strip() or indent(lines[end]) > depth):
+        end += 1
+    if end < clause.end and indent(lines[end]) == depth and lines[end].strip()[0] in "]})" and not is_whole("\n".join(lines[at:end])):
+        end += 1
+    while not lines[end - 1].strip():
+        end -= 1
+    return end
+
+
+def parts_of(lines, clause):
+    """The parts of a clause's term: what stands behind `↦`, a field of a record, and a clause of a declaration of its `where`."""
+    signed = set()
+    for at in range(clause.start + 1, clause.end):
+        if found := re.match(rf"^( *)({NAME}) : ", lines[at]):
+            signed.add((found[2], len(found[1])))
+            continue
+        case, field = re.match(r"^( *\| [^↦]*↦)( |$)", lines[at]), re.match(r"^( +[a-z_]\w* =)( |$)", lines[at])
+        named_so = re.match(rf"^( *)({NAME})( |$)", lines[at])
+        end = part_end(lines, at, clause)
+        if named_so and (named_so[2], len(named_so[1])) in signed and head_end(lines[at]) is not None:
+            head, tail = lines[at][:head_end(lines[at])] + " =", ""
+        elif case or field:
+            head, tail = (case or field)[1], ";" if lines[end - 1].endswith(";") else ""
+        else:
+            continue
+        term = "\n".join([lines[at][len(head):], *lines[at + 1:end]])
+        if is_whole(term) and (case or tail or not field or named_so and (named_so[2], len(named_so[1])) in signed):
+            yield Part(at, end, head, tail, term)
+
+
 def words_of_call(rest):
     """What stands behind a name up to the end of its call."""
     depth = end = 0
@@ -175,10 +223,10 @@ def shortened(facts, of, most):
     return facts if len(facts) <= most else None
 
 
-def one_call(head, names):
-    """A clause as one call, on a line or on two: `rt fmt` gives each name of a broken list a line of its own."""
-    call = f"grind ({', '.join(names)})"
-    return [f"{head} = {call}"] if len(head) + 3 + len(call) <= WIDTH else [f"{head} =", " " * (indent(head) + 4) + call]
+def one_call(head, names, tail=""):
+    """A part as one call, on a line or on two: `rt fmt` gives each name of a broken list a line of its own."""
+    call = f"grind ({', '.join(names)}){tail}"
+    return [f"{head} {call}"] if len(head) + 1 + len(call) <= WIDTH else [head, " " * (indent(head) + 4) + call]
 
 
 def named(names):

@@ -4,9 +4,9 @@
     python/run tests/tree/shorter.py CRATE          in a clone of its own: the proofs of the crate are edited there
 
 A clause is what stands behind one `name patterns =`. Each of --lines lines or more is tried as one call, `grind (arith,
-common_steps, NAMES)`. NAMES are what the old term cites: lemmas that are imported or declared above, facts of its arguments'
-records, and its own calls at smaller arguments. What `common_steps` holds is left out. If more than --most are left, facts of
-records at hand are left out too.
+common_steps, NAMES)`, and with --parts each part of its term, so that the step that no call finds is left. NAMES are what the
+old term cites: lemmas that are imported or declared above, facts of its arguments' records, and its own calls at smaller
+arguments. What `common_steps` holds is left out. If more than --most are left, facts of records at hand are left out too.
 
 The steps, of which --step runs one alone:
 
@@ -38,11 +38,11 @@ import tempfile
 import threading
 import time
 
-from tree.clauses import (LISTS, NAME, PLAIN, TOP, WIDTH, cited, clauses, imported, named, needs, one_call, rule_sets, shortened,
-                          tables, without_idle)
+from tree.clauses import LISTS, PLAIN, TOP, WIDTH, clauses, imported, named, needs, one_call, rule_sets, tables, without_idle
+from tree.trials import Trials
 
 NO_TRIALS = ("Lib.antt", "Common.antt", "LawSets.antt", "Invariants.antt")
-ROUNDS, MOST_DEPTH, WIDER = 3, 2, 20  # checks of the whole, depth of a clause, columns past WIDTH
+ROUNDS, WIDER = 3, 20  # checks of the whole, columns past WIDTH
 FAILED = 7
 
 
@@ -65,91 +65,6 @@ def common():
     page = called("rt", "doc").split()
     path = pathlib.Path(page[0]).parent / "std/proofs/lemmas/Grind.antt" if page else pathlib.Path("none")
     return rule_sets(path.read_text(encoding="utf-8")).get("common_steps", set()) if path.exists() else set()
-
-
-def without_public(lines, of):
-    """A file's lines with its public lemmas and records blank, and their names, for a trial module that imports them: what they
-    prove is proved."""
-    kept, there, is_blank = [], [], False
-    for line in lines:
-        if line[:1].strip():
-            lemma, record = re.match(rf"pub ({NAME}) : ", line), re.match(r"pub record ([^\s({:]+)", line)
-            name = lemma[1] if lemma and lemma[1] not in of.names else record[1] if record else None
-            if name:
-                there.append(name)
-                is_blank = True
-            elif re.match(rf"(--|pub |use |record |data |abbrev |unfoldable |module |ruleset |{NAME} : )", line):
-                is_blank = False
-        kept.append("" if is_blank else line)
-    return kept, there
-
-
-class Trials:
-    """A file's text with a copy behind each declaration for each clause and list, and which lines they have: `marks`."""
-
-    def __init__(self, path, of, lists, words, module):
-        self.of, self.lists, self.words, self.is_answer = of, lists, words, path.name == "Answers.antt"
-        text = path.read_text(encoding="utf-8")
-        self.lines, self.known, self.count, self.copies = text.split("\n"), imported(text), 0, []
-        groups = collections.defaultdict(list)
-        for clause in clauses(self.lines):
-            groups[clause.sign, clause.name, clause.depth].append(clause)
-        for parts in groups.values():
-            self.add(parts)
-        self.put(module)
-
-    def above(self, clause):
-        """The names that a declaration can use."""
-        found = [(at, re.match(rf"^( *)(?:pub )?({NAME}) : ", line)) for at, line in enumerate(self.lines[:clause.sign])]
-        return self.known | {one[2] for _, one in found if one and len(one[1]) <= clause.depth}
-
-    def add(self, parts):
-        """The copies of a declaration, by its clauses."""
-        first = parts[0]
-        if first.name in self.of.names or first.depth > MOST_DEPTH:
-            return
-        for clause in parts:
-            if clause.end - clause.start < self.words.lines or self.lists is not None and str(clause.start) not in self.lists:
-                continue
-            for names in self.tried(clause) if self.lists is None else self.lists[str(clause.start)]:
-                self.copies.append((max(part.end for part in parts), self.copy(parts, clause, names),
-                                    {"start": clause.start, "end": clause.end, "head": clause.head, "names": names}))
-
-    def tried(self, clause):
-        term = "\n".join(self.lines[clause.start:clause.end])[len(clause.head) + 2:]
-        facts = shortened(cited(clause, term, self.above(clause), self.is_answer, self.of), self.of, self.words.most)
-        if facts is not None:
-            yield from (list(dict.fromkeys([*first, *facts])) for first in (LISTS if self.words.both else LISTS[:1]))
-
-    def copy(self, parts, clause, names):
-        """A declaration under another name, with one clause as a call."""
-        self.count += 1
-        lines = [line for line in self.lines[clause.sign:parts[0].start] if not line.strip().startswith("--")]
-        lines[0] = re.sub(rf"^( *)(?:pub )?{re.escape(clause.name)}(?= :)", rf"\g<1>trial{self.count}", lines[0])
-        for part in parts:
-            mine = " " * clause.depth + f"trial{self.count}" + part.head[clause.depth + len(clause.name):]
-            if part == clause:
-                lines.append(f"{mine} = grind ({', '.join(names)}) steps {self.words.steps}")
-            else:
-                lines += [mine + self.lines[part.start][len(part.head):], *self.lines[part.start + 1:part.end]]
-        return lines
-
-    def put(self, module):
-        """The whole text, with what its calls import."""
-        lines, needed = self.lines, needs(self.known)
-        if module:
-            lines, there = without_public(lines, self.of)
-            needed += [f"use {module}.{{{', '.join(there)}}}"] if there else []
-        made, self.marks, at = [], [], 0
-        for end, copy, of in sorted(self.copies, key=lambda one: one[0]):
-            made += [*lines[at:end], ""]
-            first = len(made) + 1 + len(needed)
-            self.marks.append({**of, "from": first, "to": first + len(copy) - 1})
-            made, at = [*made, *copy, ""], end
-        made += lines[at:]
-        where = next(at for at, line in enumerate(made) if line.startswith("use "))
-        made[where:where] = needed
-        self.text = "\n".join(made)
 
 
 class Run:
@@ -196,6 +111,8 @@ class Run:
             is_answer, file = path.name == "Answers.antt", str(path.relative_to(self.home))
             kind = "answers" if is_answer else "lemmas"
             if path.name in NO_TRIALS or kind not in self.words.kinds.split(",") or lists is not None and file not in lists:
+                continue
+            if self.words.but and re.search(self.words.but, file):
                 continue
             module = None if is_answer or self.words.whole else f"Rattle.{self.crate}.proofs.{path.stem}"
             trials = Trials(path, self.of, None if lists is None else lists[file], self.words, module)
@@ -302,12 +219,20 @@ class Run:
             path = self.home / file
             text = path.read_text(encoding="utf-8")
             lines, here = text.split("\n"), {}
-            for start, mark in sorted(marks.items(), key=lambda one: -one[1]["start"]):
-                made = one_call(mark["head"], mark["names"])
-                if self.is_kept(mark, made):
-                    lines[mark["start"]:mark["end"]], here[start] = made, mark
+            kept_here = []
+            for start, mark in sorted(marks.items(), key=lambda one: one[1]["start"] - one[1]["end"]):
+                made = one_call(mark["head"], mark["names"], mark["tail"])
+                is_within = any(other["start"] < mark["end"] and mark["start"] < other["end"] for other, _ in kept_here)
+                if self.is_kept(mark, made) and not is_within:
+                    kept_here.append((mark, made))
+                    here[start] = mark
                 else:
                     left += 1
+            for mark, made in sorted(kept_here, key=lambda one: -one[0]["start"]):
+                end = mark["end"]
+                while not lines[end - 1].strip():
+                    end -= 1
+                lines[mark["start"]:end] = made
             if here:
                 where, words = next(at for at, line in enumerate(lines) if line.startswith("use ")), "\n".join(lines)
                 lines[where:where] = [line for line in needs(imported(text)) if re.search(rf"\b{imported(line).pop()}\b", words)]
@@ -322,9 +247,9 @@ class Run:
         for file, wrong in errors.items():
             lines = (self.home / file).read_text(encoding="utf-8").split("\n")
             heads = {clause.head for clause in clauses(lines) for line in wrong if clause.start < line <= clause.end}
-            found += [(file, start) for start, mark in kept.get(file, {}).items() if mark["head"] in heads]
+            found += [(file, start) for start, mark in kept.get(file, {}).items() if mark["clause"] in heads]
         for file, start in found or [(file, start) for file in errors for start in kept.get(file, {})]:
-            self.say("goes back:", file, kept[file].pop(start)["head"].strip())
+            self.say("goes back:", file, kept[file].pop(start)["clause"].strip())
         self.note("best", kept)
         self.write()
 
@@ -371,10 +296,12 @@ def main():
     form.add_argument("crate", choices=names, metavar="CRATE", help="as grid_core")
     form.add_argument("--step", choices=("all", "try", "check", "read", "shrink", "write", "prove"), default="all", help="(all)")
     form.add_argument("--kinds", default="lemmas,answers", help="lemmas, answers, or both (lemmas,answers)")
+    form.add_argument("--but", default="", metavar="PATTERN", help="leave files alone whose path has it")
     form.add_argument("--lines", type=int, default=4, metavar="N", help="try clauses of N lines or more (4)")
     form.add_argument("--save", type=int, default=3, metavar="N", help="keep what saves N lines or more (3)")
     form.add_argument("--most", type=int, default=7, metavar="N", help="keep lists of N names or fewer, but for the kit's (7)")
     form.add_argument("--above", type=int, default=7, metavar="N", help="shrink lists of more than N names (7)")
+    form.add_argument("--parts", action="store_true", help="try cases, fields of records and a `where`'s own too")
     form.add_argument("--both", action="store_true", help="try each list without common_steps too: twice the time, a few more")
     form.add_argument("--whole", action="store_true", help="a trial module proves its file's public lemmas again")
     form.add_argument("--steps", type=int, default=800_000, metavar="N", help="steps of a trial (800000, a fifth of usual)")

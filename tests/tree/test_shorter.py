@@ -3,7 +3,7 @@ import argparse
 
 import pytest
 
-from tree import clauses, shorter
+from tree import clauses, trials
 
 LINES = """\
 use Rattle.std.specs.Prelude.{◌≡◌, ℕ, length}
@@ -65,11 +65,53 @@ def test_imports_that_a_call_makes_idle_go():
 
 
 def test_a_trial_is_a_copy_with_one_call(tmp_path):
-    path, words = tmp_path / "Answers.antt", argparse.Namespace(lines=4, both=False, most=7, steps=800)
+    path, words = tmp_path / "Answers.antt", argparse.Namespace(lines=4, both=False, most=7, steps=800, parts=False)
     path.write_text("\n".join(LINES), encoding="utf-8")
-    trials = shorter.Trials(path, clauses.Tables({"IsKept"}, {"same": True}, set()), None, words, None)
-    mark, = trials.marks
-    assert trials.text.split("\n")[mark["from"] - 1:mark["to"]] == [
+    made = trials.Trials(path, clauses.Tables({"IsKept"}, {"same": True}, set()), None, words, None)
+    mark, = made.marks
+    assert made.text.split("\n")[mark["from"] - 1:mark["to"]] == [
         "trial1 : (n : ℕ) (k : IsKept n) → n ≡ n",
         "trial1 zero k = grind (arith, common_steps, lone, kept_len, k.same) steps 800",
         "trial1 (suc n) k =", "    kept n (k)", "    ∙ total n"]
+
+
+PARTS = """\
+use Rattle.std.specs.Prelude.{◌≡◌, ℕ}
+use Rattle.grid_core.proofs.BoardLemmas.{kept_len, total}
+
+pub kept : (n : ℕ) → IsKept n
+kept n = elim (cases n) [
+  | inl low ↦
+      let first = kept_len n in
+      first ∙ total n
+  | inr high ↦ record {
+    same = total n
+        ∙ by n
+        ∙ kept_len n;
+    low = by n;
+  }
+]
+  where
+    by : (n : ℕ) → n ≡ n
+    by n =
+        kept_len n
+        ∙ total n
+""".split("\n")
+
+
+def test_parts_of_a_clause():
+    """A case, a record behind one with its bracket, a field, and a clause of the `where`; not the field of one line."""
+    clause, = clauses.clauses(PARTS)
+    assert [(part.start, part.end, part.head.strip(), part.tail) for part in clauses.parts_of(PARTS, clause)
+            if part.end - part.start > 1] == [
+        (5, 8, "| inl low ↦", ""), (8, 14, "| inr high ↦", ""), (9, 12, "same =", ";"), (17, 20, "by n =", "")]
+
+
+def test_a_trial_of_a_part_keeps_the_rest(tmp_path):
+    path, words = tmp_path / "Answers.antt", argparse.Namespace(lines=3, both=False, most=7, steps=800, parts=True)
+    path.write_text("\n".join(PARTS), encoding="utf-8")
+    made = trials.Trials(path, clauses.Tables({"IsKept"}, {}, set()), None, words, None)
+    mark = next(mark for mark in made.marks if mark["head"].endswith("inl low ↦"))
+    assert made.text.split("\n")[mark["from"] - 1:mark["to"]][:4] == [
+        "trial2 : (n : ℕ) → IsKept n", "trial2 n = elim (cases n) [",
+        "  | inl low ↦ grind (arith, common_steps, kept_len, total) steps 800", "  | inr high ↦ record {"]

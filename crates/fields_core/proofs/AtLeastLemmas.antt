@@ -97,11 +97,9 @@ module _ {cells : ℕ} {places : List ℕ} (K : Candidates) (is : IsHouse cells 
     several-idle : (c v : ℕ) → K c v ≡ true → strikes_of (one_at_least places) K c v ≡ false
     unfolding after_house
     several-idle c v on =
+        let by : (z s : Bool) → (true && not s) ≡ not (z && false) → s ≡ false = λ z s e. grind (arith, common_steps, cases_Bool z, cases_Bool s) in
         let left = least-after K is places-full (inr (omega (arith, several))) c (full.low c v on) on in
         by (eqb v 0) _ ((rw on at left) ∙ rw (none-lone c) refl)
-      where
-        by : (z s : Bool) → (true && not s) ≡ not (z && false) → s ≡ false
-        by z s e = grind (arith, common_steps, cases_Bool z, cases_Bool s)
 
     pub several-stay : after_house (one_at_least places) K ≡ K
     unfolding after_house

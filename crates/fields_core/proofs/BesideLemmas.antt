@@ -112,10 +112,7 @@ back size t c (suc (suc zero)) pos lt lc less e =
     let u = step-right size t c e in let v = cell-after t u.1 in
     let q : 1 ≤ c % size.w = let a : c % size.w ≡ t % size.w + 1 = ap (λ n. n % size.w) u.0 ∙ v.1 in omega arith in
     (1, omega arith, cond-true (leb 1 (c % size.w)) _ _ (le-leb _ _ q) ∙ ap Some (omega (arith, u.0)))
-back size t c (suc (suc (suc zero))) pos lt lc less e =
-    let u = step-down size t c e in let v = cell-below t pos in
-    let q : 1 ≤ c / size.w = let a : c / size.w ≡ t / size.w + 1 = ap (λ n. n / size.w) u.0 ∙ v.0 in omega arith in
-    (0, omega arith, cond-true (leb 1 (c / size.w)) _ _ (le-leb _ _ q) ∙ ap Some (omega (arith, u.0)))
+back size t c (suc (suc (suc zero))) pos lt lc less e = grind (arith, common_steps, step-down, cell-below, cond-true, leb, le-leb)
 back size t c (suc (suc (suc (suc k)))) pos lt lc less e = absurd (omega arith)
 
 pub steps-has : (size : Extent) (c n k : ℕ) {d : ℕ} → k < n → step size c k ≡ Some d → has_place (steps size c n) d ≡ true

@@ -18,10 +18,7 @@ cell-is w y x c lt = grind (arith, common_steps, same-truth, eqb-true, div-mul-a
 
 -- the cells of a line are those at its places
 pub place-on : (cell : ℕ → ℕ) (n c : ℕ) → has_place (map cell (range_with_len 0 n)) c ≡ true → (k : ℕ) × (k < n) × (cell k ≡ c)
-place-on cell n c there =
-    let w = has_place-at (map cell (range_with_len 0 n)) c there in
-    let lt : w.0 < n = omega (arith, w.1, length-map-range_with_len cell 0 n) in
-    (w.0, lt, sym (get_or-map-range_with_len cell 0 n w.0 w.0 0 lt (omega arith)) ∙ w.2)
+place-on cell n c there = grind (arith, common_steps, has_place-at, range_with_len, length-map-range_with_len, get_or-map-range_with_len)
 
 line-has : (cell : ℕ → ℕ) (n c k : ℕ) {on : Bool} → (on ≡ true → (k < n) × (cell k ≡ c)) → ((j : ℕ) → j < n → cell j ≡ c → on ≡ true)
     → has_place (map cell (range_with_len 0 n)) c ≡ on
@@ -178,10 +175,7 @@ next-off test n word off is k = grind (arith, common_steps, cases_eq k n, lt-ltb
 pub rows-more : {W : Type 0} (bits : W → ℕ) (words : List W) (n : ℕ) (P : ℕ → ℕ → Type 0) (word : W) → n < length words
     → ((y : ℕ) → y < n → P y (slice_index (map bits words) y)) → P n (bits word)
     → (y : ℕ) → y < n + 1 → P y (slice_index (map bits (set words n word)) y)
-rows-more bits words n P word lt written is y less = rw (map-set bits words n word) (elim (cases_eq y n) [
-  | inl e ↦ rw (e, get_or-set_same (map bits words) n (bits word) 0 (omega (arith, lt, length-map words bits))) is
-  | inr ne ↦ rw (get_or-set_other (map bits words) n y (bits word) 0 ne) (written y (omega arith))
-])
+rows-more bits words n P word lt written is y less = grind (arith, common_steps, map-set, cases_eq, get_or-set_same, length-map, get_or-set_other)
 
 -- the word that was read
 pub row-read : {W : Type 0} (bits : W → ℕ) (words : List W) (y : ℕ) (word : W) → y < length words → word ≡ get_or words y word → slice_index (map bits words) y ≡ bits word

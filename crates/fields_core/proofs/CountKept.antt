@@ -125,20 +125,16 @@ module _ (K : Candidates) (places : List ℕ) (k v : ℕ) (different : AreDiffer
 
   must-fixed : must_of fixed places + num (not (K cell 0)) ≡ must_of K places + v
   must-fixed =
+      let by : (u : ℕ) → u < 2 → u ≡ v → num (not (fixed cell 0)) ≡ u = λ u l e. grind (arith, common_steps, cases_eq u 0, own-is, own-alone) in
       count-at _ _ cell (λ c ne. ap not (others 0 ne)) places
       (distinct-from places different) (has_place-here places k lt)
       ∙ ap (λ n. must_of K places + n) (by v low refl)
-    where
-      by : (u : ℕ) → u < 2 → u ≡ v → num (not (fixed cell 0)) ≡ u
-      by u l e = grind (arith, common_steps, cases_eq u 0, own-is, own-alone)
 
   may-fixed : may_of fixed places + num (K cell 1) ≡ may_of K places + v
   may-fixed =
+      let by : (u : ℕ) → u < 2 → u ≡ v → num (fixed cell 1) ≡ u = λ u l e. grind (arith, common_steps, cases_eq u 0, own-is, own-alone) in
       count-at _ _ cell (λ c ne. others 1 ne) places (distinct-from places different) (has_place-here places k lt)
       ∙ ap (λ n. may_of K places + n) (by v low refl)
-    where
-      by : (u : ℕ) → u < 2 → u ≡ v → num (fixed cell 1) ≡ u
-      by u l e = grind (arith, common_steps, cases_eq u 0, own-is, own-alone)
 
   full-fixed : HaveValues K places → HaveValues fixed places
   full-fixed full j lj = grind (arith, common_steps, cases_eq, slice_index, own-is)
@@ -192,13 +188,7 @@ has-value K c some = grind (arith, common_steps, cases_Bool)
 by-value : (K : Candidates) (c : ℕ) {v : ℕ} → v < 2 → K c v ≡ true → cond (eqb v 0) (K c 0) (K c 1) ≡ true
 by-value K c {v} low on = grind (arith, common_steps, cases_eq v 0, ne_eqb)
 
--- there is room for a value that a cell has, unless it has both and the value's bound is reached
-room : {least most must may : ℕ} (v : ℕ) (zero_on one_on : Bool) → v < 2 → cond (eqb v 0) zero_on one_on ≡ true → least ≤ may → must ≤ most
-    → ((zero_on && one_on) && (((eqb v 1) && (eqb must most)) || ((eqb v 0) && (eqb may least)))) ≡ false
-    → (least + num one_on ≤ may + v) × (must + v ≤ most + num (not zero_on))
-room v zero_on one_on low on few many off = grind (arith, common_steps, cases_eq, eq-eqb, ne_eqb)
-
--- and where there is, the bounds leave room for all, and the value's is not reached
+-- where there is room for a value that a cell has, the bounds leave room for all, and the value's is not reached
 reached : {least most must may : ℕ} (v : ℕ) (zero_on one_on : Bool) → v < 2 → cond (eqb v 0) zero_on one_on ≡ true
     → least + num one_on ≤ may + v → must + v ≤ most + num (not zero_on)
     → (least ≤ may) × (must ≤ most) × (((zero_on && one_on) && (((eqb v 1) && (eqb must most)) || ((eqb v 0) && (eqb may least)))) ≡ false)

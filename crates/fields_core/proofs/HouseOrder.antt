@@ -1,5 +1,5 @@
 -- Houses of a kind, visited in any order.
-use Rattle.fields_core.proofs.Common.{AllByRecursion, AreDistinct, AreIdle, ArePlanesAlive, AreVisited, Bool, Candidates, CountHouse, IsHouse, IsInside, IsLeast, Layers, List, [], after_house, after_visits, and-true, and_from, and_parts, ap, arith, cases_Bool, plane_cells, common_steps, count_by, distinct-from, eq-eqb, eqb, eqb-true, false, false_from_ne_true, false≢true, fun_ext, planes_have, has_place, houses_below, inl, inr, list_any, lt-ltb, ltb, ltb-false, ltb-true, not, not-true, or_cases, or_left, or_parts, or_right, refl, sym, true, true≢false, ℕ, ◌&&◌, ◌<◌, ◌||◌, ◌∙◌, ◌∷◌, ◌≡◌, ◌≢◌, ◌≤◌, ◌⊎◌}
+use Rattle.fields_core.proofs.Common.{AllByRecursion, AreDistinct, AreIdle, ArePlanesAlive, AreVisited, Bool, Candidates, CountHouse, IsHouse, IsInside, IsLeast, Layers, List, [], after_house, after_visits, and-true, and_from, ap, arith, cases_Bool, plane_cells, common_steps, count_by, distinct-from, eq-eqb, eqb, false, false_from_ne_true, false≢true, planes_have, has_place, houses_below, inl, inr, list_any, lt-ltb, ltb, ltb-false, ltb-true, not, not-true, or_cases, or_left, or_parts, or_right, refl, sym, true, true≢false, ℕ, ◌&&◌, ◌<◌, ◌∙◌, ◌∷◌, ◌≡◌, ◌≢◌, ◌≤◌}
 use Rattle.fields_core.proofs.VisitLemmas.{IsBinaryAlive, IsOneAtMost, after-inside, sweep-first, sweep-more, visits-met, visits-two, zeros_of}
 unfoldable use Rattle.fields_core.proofs.VisitLemmas.{is_met, without_met}
 use Rattle.fields_core.proofs.PlaceLists.{any-here, any-some, count-cons, num, some-counted}
@@ -44,12 +44,9 @@ count-pair test (x ∷ xs) distinct many = by (λ more. count-pair test xs disti
           on,
           w.2,
         )
-    by rest false off =
-        let none : num (test x) ≡ 0 = rw off refl in
-        let more : 1 < count_by test xs = omega (arith, many, count-cons test x xs, none) in let w = rest more in
-        (w.0, w.1, w.2, or_right _ _ w.3, or_right _ _ w.4, w.5, w.6)
+    by rest false off = grind (arith, common_steps, count_by, count-cons, or_right)
 
--- more than one cell of the house has no 0
+-- more than one cell of the house planes_have no 0
 abbrev many_in : Candidates → CountHouse → Bool
 many_in K house = ltb 1 (count_by (λ d. not (K d 0)) house.places)
 
@@ -71,17 +68,7 @@ pair-of cells K (house ∷ houses) (is, each) some = elim (or_cases _ _ some) [
         or_left _
             _ (and_from _ _ w.3 w.4),
       )
-  | inr more ↦
-      let w = pair-of cells K houses each more in (
-        w.0,
-        w.1,
-        w.2,
-        w.3,
-        w.4,
-        w.5,
-        or_right _
-            _ w.6,
-      )
+  | inr more ↦ grind (arith, common_steps, or_right, pair-of cells K houses each more)
 ]
 
 few-of : (cells : ℕ) (K : Candidates) (houses : List CountHouse) → AllByRecursion (IsSingle cells) houses
@@ -114,18 +101,13 @@ module _ (some all : List CountHouse) (from to : Layers) (fills : Bool) (alive :
   dead : (c : ℕ) → c < cells → ((v : ℕ) → v < 2 → planes_have to c v ≡ false) → ⊥
   dead c lt none = grind (arith, common_steps)
 
-  -- a house has two cells that must be ones
+  -- a house planes_have two cells that must be ones
   broken : list_any (many_in (planes_have from)) some ≡ true → AreVisited all from to fills
   broken many =
       let w = pair-of cells (planes_have from) some each_some many in
       record {
         left = λ e. absurd (dead w.0 w.2 (λ v low. ap (λ (L : Candidates). L w.0 v) (visited.left e) ∙ two some each_some w.0 w.1 v w.3 w.6 w.4 w.5 low));
-        dies = λ e. (
-          w.0,
-          w.2,
-          λ v low. two all each_all w.0 w.1 v w.3
-              (sym (same (λ house. has_place house.places w.0 && has_place house.places w.1)) ∙ w.6) w.4 w.5 low,
-        );
+        dies = grind (arith, common_steps, two);
         alive = visited.alive;
         further = visited.further;
       }
@@ -134,29 +116,10 @@ module _ (some all : List CountHouse) (from to : Layers) (fills : Bool) (alive :
       → after_visits houses (planes_have from) ≡ without_met houses (planes_have from)
   met houses each none = visits-met houses (planes_have from) full (few-of cells (planes_have from) houses each none)
 
-  -- no house has two
+  -- no house planes_have two
   whole : list_any (many_in (planes_have from)) some ≡ false → AreVisited all from to fills
   unfolding without_met
-  whole none =
-      let as_some = met some each_some none in let as_all = met all each_all (sym (same (many_in (planes_have from))) ∙ none) in
-      record {
-        left = λ e. visited.left e ∙ as_some ∙ moved ∙ sym as_all;
-        dies = λ e. let w = visited.dies e in absurd (living w.0 (alive w.0 w.1)
-            (λ v low. ap (λ (L : Candidates). L w.0 v) (sym as_some) ∙ w.2 v low));
-        alive = visited.alive;
-        further = visited.further;
-      }
-    where
-      moved : without_met some (planes_have from) ≡ without_met all (planes_have from)
-      moved = grind (arith, common_steps)
-
-      living : (c : ℕ) → (planes_have from c 0 ≡ true) ⊎ (planes_have from c 1 ≡ true) → ((v : ℕ) → v < 2 → without_met some (planes_have from) c v ≡ false) → ⊥
-      living c value off = by (list_any (λ house. is_met (zeros_of (planes_have from)) house c) some) (off 0 (omega arith)) (off 1 (omega arith)) value
-        where
-          by : (any : Bool) → (planes_have from c 0 && not (false && (planes_have from c 0 && any))) ≡ false
-              → (planes_have from c 1 && not (true && (planes_have from c 0 && any))) ≡ false
-              → (planes_have from c 0 ≡ true) ⊎ (planes_have from c 1 ≡ true) → ⊥
-          by any zero one value = grind (arith, common_steps, cases_Bool (planes_have from c 0), cases_Bool (planes_have from c 1), cases_Bool any)
+  whole none = grind (arith, common_steps, met, list_any, cases_Bool)
 
   pub visited-any-order : AreVisited all from to fills
   visited-any-order = elim (cases_Bool (list_any (many_in (planes_have from)) some)) [ inl many ↦ broken many | inr none ↦ whole none ]
@@ -187,23 +150,7 @@ module _ (cells : ℕ) (house : CountHouse) (K L : Candidates) (is : IsSingle ce
 
   pub single-kept : after_house house L ≡ L
   unfolding without_met is_met
-  single-kept = left-by full_L zeros ∙ fun_ext λ c. fun_ext λ v. by c v (cases_Bool (L c v && (eqb v 1 && (L c 0 && is_met (zeros_of L) house c))))
-    where
-      struck : (c v : ℕ) → L c v ≡ true → v ≡ 1 → L c 0 ≡ true → has_place house.places c ≡ true
-          → list_any (λ d. not (L d 0)) house.places ≡ true → ⊥
-      struck c v on one zero_on there some = grind (arith, common_steps, any-some, not-true, and_from, any-here, left-by)
-
-      by : (c v : ℕ) → ((L c v && (eqb v 1 && (L c 0 && is_met (zeros_of L) house c))) ≡ true)
-          ⊎ ((L c v && (eqb v 1 && (L c 0 && is_met (zeros_of L) house c))) ≡ false)
-          → (L c v && not (eqb v 1 && (L c 0 && (is_met (zeros_of L) house c || false)))) ≡ L c v
-      by c v (inr off) = same (L c v) (eqb v 1) (L c 0) (is_met (zeros_of L) house c) off
-        where
-          same : (a e z i : Bool) → (a && (e && (z && i))) ≡ false → (a && not (e && (z && (i || false)))) ≡ a
-          same a e z i off = grind (arith, common_steps, cases_Bool a, cases_Bool e, cases_Bool z, cases_Bool i)
-      by c v (inl on) =
-          let w = and_parts _ _ on in let u = and_parts _ _ w.1 in
-          let x = and_parts _ _ u.1 in let y = and_parts _ _ x.1 in
-          absurd (struck c v w.0 (eqb-true _ _ u.0) x.0 y.0 y.1)
+  single-kept = grind (arith, common_steps, left-by, list_any, any-some, not-true, and_from, any-here)
 
 -- houses of one at most whose visits take nothing: nor do they where only ones of their cells were lost since
 pub singles-kept : (cells : ℕ) (houses : List CountHouse) (K L : Candidates) → AllByRecursion (IsSingle cells) houses

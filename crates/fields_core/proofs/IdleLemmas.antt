@@ -15,9 +15,6 @@ full-between {K} {L} {M} first last inside within = grind (arith, common_steps)
 abbrev pub IsFar : (ℕ → Bool) → Candidates → Candidates → Type 0
 IsFar has_it K L = (c v : ℕ) → K c v ≡ true → L c v ≡ false → has_it c ≡ false
 
-stays : (a b d : Bool) → (a && b) ≡ a → (d ≡ true → a ≡ true) → (a && d) ≡ d → (d && b) ≡ d
-stays a b d e f g = grind (arith, common_steps, cases_Bool a, cases_Bool b, cases_Bool d)
-
 pub house-far : (house : CountHouse) {K L : Candidates} → IsInside L K → IsFar (has_place house.places) K L
     → after_house house K ≡ K → after_house house L ≡ L
 unfolding after_house strikes_of

@@ -1,14 +1,14 @@
 -- Light Up: houses by what tells them, lonely numbers, and grids that meet each house.
 use Rattle.fields_core.proofs.Common.{AreMet, Black, Bool, CountHouse, IsAround, IsGrid, IsLight, Light, LightHouse, List, Numbered, Segment, [], all_below-at, all_below-from, and_parts, any_below, any_below-none, any_below-some, ap, append-nil, ap₂, arith, begins_column_run, begins_row_run, black_right, bulb, bulb_right, bulbs_beside, cases_Bool, cases_eq, cases_lt, column_house, column_run, common_steps, cond, count_by, count_by-le-length, eq-eqb, eqb, eqb-true, exactly, false, false_from_ne_true, filter, get_or, has_place, has_place-at, houses_below, inl, inr, leb-true, length, light_cells, light_counts, light_house, light_houses, cells_along, line_white, lit_house, lit_right, lonely, lt-ltb, map, meets_house, mod-lt, ne_eqb, nonzeros, not, not-true, number_house, number_right, one_at_least, one_at_most, or_cases, or_left, or_right, place-append, place-filter, place-front, places_in_segments, refl, row_house, row_run, run_house, seen_from, sees, sees_bulb, segment_places, slice_index, solves_lights, steps, sym, true, true≢false, white, ℕ, ◌%◌, ◌*◌, ◌++◌, ◌+◌, ◌-◌, ◌/◌, ◌<◌, ◌||◌, ◌∙◌, ◌∷◌, ◌≡◌}
-use Rattle.fields_core.proofs.LightHouseLaws.{bulb-in, column-self, lit-from, lit-parts, row-self, small-at, white-in}
+use Rattle.fields_core.proofs.LightHouseLaws.{bulb-in, line-self, lit-from, lit-parts, small-at, white-in}
 use Rattle.fields_core.proofs.RunLemmas.{column-house-is, lit-lines, row-house-is}
 use Rattle.fields_core.proofs.BesideLemmas.{row-in, whole-cell}
-use Rattle.fields_core.specs.declared.light_up.light_house.LightHouse.TheVariants.{Column, Lit, Number, Row}
 use Rattle.fields_core.proofs.VisitLemmas.{among-back, among-below, among-front, among-met, among-one}
 use Rattle.fields_core.proofs.PlaceLists.{any-some, count-filter, count-two, ones-bulbs, some-counted}
 use Rattle.fields_core.proofs.LightSeen.{seen-there}
-use Rattle.fields_core.proofs.LightRuleLemmas.{IsLightBoard, column-run-joined, in-column-run, in-row-run, light-board, row-run-joined}
-use Rattle.fields_core.proofs.LightRunOrder.{column-begin, row-begin}
+use Rattle.fields_core.proofs.LightRuleLemmas.{IsLightBoard, in-column-run, in-row-run, light-board, line-run-joined}
+use Rattle.fields_core.proofs.LightRunOrder.{line-begin}
+use Rattle.fields_core.specs.declared.planes.light_up.waits.RunKind.TheVariants.{Columns, Rows}
 
 -- Houses of Light Up by what tells them. A place that tells a house lies in the grid.
 
@@ -20,10 +20,7 @@ told-if false house e = absurd (omega arith)
 -- its place lies in the grid
 pub place-tells : (p : Light) (kind : LightHouse) (c : ℕ) → IsLight p → length (light_house p kind c) ≡ 1 → c < light_cells p
 unfolding begins_row_run begins_column_run
-place-tells p Number c lawful e = grind (arith, common_steps, cases_lt)
-place-tells p Row c lawful e = white-in p c lawful.count (and_parts _ _ (told-if (begins_row_run p c) _ e)).0
-place-tells p Column c lawful e = white-in p c lawful.count (and_parts _ _ (told-if (begins_column_run p c) _ e)).0
-place-tells p Lit c lawful e = white-in p c lawful.count (told-if (white p c) _ e)
+place-tells = grind (arith, common_steps, cases_lt, white-in, and_parts, told-if)
 
 -- ---- the house of a white cell is that of three segments
 pub lit-told : (p : Light) (y : ℕ) {x : ℕ} (a b c none : Segment) {left right top end : ℕ} → x < p.size.w → white p (y * p.size.w + x) ≡ true
@@ -65,7 +62,7 @@ module _ (p : Light) (g : List ℕ) (is : IsLight p) (grid : IsGrid (light_cells
   row-met : (c : ℕ) → white p c ≡ true → Meets (one_at_most (row_run p c))
   unfolding begins_row_run light_houses
   row-met c on =
-      let b = row-begin p c board.some on in let lt = white-in p b.0 board.long (and_parts _ _ b.1).0 in
+      let b = line-begin p Rows (c + 1) c (omega arith) board.some on in let lt = white-in p b.0 board.long (and_parts _ _ b.1).0 in
       rw b.2 at (among-met {house = one_at_most (row_run p b.0)} met (among-back (houses_below (number_house p) (light_cells p))
       (among-front _
       (among-below _ (row_house p) lt (rw b.1 (among-one _))))))
@@ -73,7 +70,7 @@ module _ (p : Light) (g : List ℕ) (is : IsLight p) (grid : IsGrid (light_cells
   column-met : (c : ℕ) → white p c ≡ true → Meets (one_at_most (column_run p c))
   unfolding begins_column_run light_houses
   column-met c on =
-      let b = column-begin p c board.some on in let lt = white-in p b.0 board.long (and_parts _ _ b.1).0 in
+      let b = line-begin p Columns (c + 1) c (omega arith) board.some on in let lt = white-in p b.0 board.long (and_parts _ _ b.1).0 in
       rw b.2 at (among-met {house = one_at_most (column_run p b.0)} met (among-back (houses_below (number_house p) (light_cells p))
       (among-back (houses_below (row_house p) (light_cells p)) (among-front _
       (among-below _ (column_house p) lt (rw b.1 (among-one _)))))))
@@ -92,9 +89,9 @@ module _ (p : Light) (g : List ℕ) (is : IsLight p) (grid : IsGrid (light_cells
       let is_white = bulb-white c lt on.0 in
       let apart = λ (e : c ≡ w.0). true≢false (sym (eq-eqb c w.0 e) ∙ not-true (eqb c w.0) parts.0) in
       elim (or_cases _ _ parts.1) [
-        | inl row ↦ run-apart (row_run p c) c w.0 (row-met c is_white) (in-row-run p c c board.some (row-self p c is_white))
+        | inl row ↦ run-apart (row_run p c) c w.0 (row-met c is_white) (in-row-run p c c board.some (line-self p Rows c is_white))
             (in-row-run p c w.0 board.some row) on.0 seen.1 apart
-        | inr column ↦ run-apart (column_run p c) c w.0 (column-met c is_white) (in-column-run p c board.some lt (column-self p c is_white))
+        | inr column ↦ run-apart (column_run p c) c w.0 (column-met c is_white) (in-column-run p c board.some lt (line-self p Columns c is_white))
             (in-column-run p c {d = w.0} board.some w.1 column) on.0 seen.1 apart
       ]))
 
@@ -108,7 +105,7 @@ module _ (p : Light) (g : List ℕ) (is : IsLight p) (grid : IsGrid (light_cells
   bulb-seen : {c : ℕ} → c < light_cells p → white p c ≡ true → (d : ℕ) × (has_place (seen_from p c) d ≡ true) × (bulb g d ≡ true)
   unfolding meets_house seen_from
   bulb-seen {c} lt on =
-      let own = has_place-at (seen_from p c) c (place-front _ _ c (in-row-run p c c board.some (row-self p c on))) in
+      let own = has_place-at (seen_from p c) c (place-front _ _ c (in-row-run p c c board.some (line-self p Rows c on))) in
       let some = leb-true 1 (nonzeros (map (slice_index g) (seen_from p c))) (and_parts _ _ (lit-met lt on (omega (arith, own.1)))).0 in
       any-some (bulb g) (seen_from p c)
       (sym (some-counted (bulb g) (seen_from p c)) ∙ lt-ltb 0 _ (omega (arith, some, ones-bulbs g (seen_from p c) (small-at grid))))
@@ -122,8 +119,8 @@ module _ (p : Light) (g : List ℕ) (is : IsLight p) (grid : IsGrid (light_cells
         or_right (not (white p c)) (bulb g c || sees_bulb p g c) (elim (cases_eq w.0 c) [
           | inl same ↦ or_left (bulb g c) (sees_bulb p g c) (rw same at w.2)
           | inr other ↦ or_right (bulb g c) (sees_bulb p g c) (seen-there p g lies other (elim (place-append (row_run p c) _ w.0 w.1) [
-            | inl row ↦ or_left _ _ (row-run-joined p c w.0 row)
-            | inr column ↦ or_right _ _ (column-run-joined p c w.0 (place-filter _ _ w.0 column).0)
+            | inl row ↦ or_left _ _ (line-run-joined p Rows c w.0 row)
+            | inr column ↦ or_right _ _ (line-run-joined p Columns c w.0 (place-filter _ _ w.0 column).0)
           ]) w.2)
         ])
   ]

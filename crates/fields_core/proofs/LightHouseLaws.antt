@@ -1,5 +1,7 @@
 -- The houses of Light Up, its tests, and which bulbs a cell sees.
-use Rattle.fields_core.proofs.Common.{AreDistinct, Bool, CountHouse, Extent, IsGrid, IsHouse, Light, List, ℕ, all_below, all_below-at, all_below-from, and_from, and_parts, ap, arith, begins_column_run, begins_row_run, black_right, bulb, bulb_right, cases_Bool, cases_eq, cases_lt, clear, column-at, column_places, column_run, common_steps, count_by, different-from, distinct-from, div-eq_of_lt, div-lt_iff_lt-mul, eq-eqb, eqb, eqb-true, false, false_from_ne_true, filter, filter_agree, get_or_past, has_place, inl, inr, joined_in_column, joined_in_row, le-leb, length, light_cells, lit_right, lt-ltb, ltb, ltb-true, max, meets_house, min, mod-lt, mul-le-mul_right, not, not-false, number_right, or_cases, or_left, or_parts, or_right, row-at, row_places, row_run, slice_index, solves_lights, sym, true, white, ◌%◌, ◌*◌, ◌+◌, ◌-◌, ◌/◌, ◌<◌, ◌||◌, ◌∙◌, ◌≡◌, ◌≤◌}
+use Rattle.fields_core.proofs.Common.{AreDistinct, Bool, CountHouse, Extent, IsGrid, IsHouse, Light, List, all_below, all_below-at, all_below-from, and_from, and_parts, ap, arith, begins_column_run, begins_row_run, black_right, bulb, bulb_right, cases_Bool, cases_eq, cases_lt, clear, column-at, column_places, column_run, common_steps, count_by, different-from, distinct-from, div-eq_of_lt, div-lt_iff_lt-mul, eq-eqb, eqb, eqb-false, eqb-true, false, false_from_ne_true, filter, filter_agree, get_or_past, has_place, inl, inr, joined_in_column, joined_in_row, le-leb, length, light_cells, lit_right, lt-ltb, ltb, ltb-true, max, meets_house, min, mod-lt, mul-le-mul_right, not, not-false, number_right, or_cases, or_left, or_parts, or_right, row-at, row_places, row_run, sees, slice_index, solves_lights, sym, true, white, ℕ, ◌%◌, ◌*◌, ◌+◌, ◌-◌, ◌/◌, ◌<◌, ◌||◌, ◌∙◌, ◌≡◌, ◌≤◌}
+use Rattle.fields_core.specs.declared.planes.light_up.waits.RunKind.{RunKind}
+use Rattle.fields_core.specs.declared.planes.light_up.waits.RunKind.TheVariants.{Columns, Rows}
 use Rattle.fields_core.proofs.HouseLemmas.{column-long, row-long}
 use Rattle.fields_core.proofs.BesideLemmas.{cell-below, cell-parts, whole-cell}
 use Rattle.fields_core.proofs.PlaceLists.{ones-bulbs}
@@ -94,117 +96,117 @@ clear-both test j k l a b = clear-from test k l (λ i low high. elim (cases_lt i
   ]
 ])
 
-pub row-parts : (p : Light) (c d : ℕ) → joined_in_row p c d ≡ true → (c / p.size.w ≡ d / p.size.w)
-    × (clear (λ x. white p (c / p.size.w * p.size.w + x)) (c % p.size.w) (d % p.size.w) ≡ true)
+-- ---- a line of either kind: that of a cell, the cell's number in it, and the cell of a number
+abbrev pub own_line : Light → RunKind → ℕ → ℕ
+own_line p Rows c = c / p.size.w
+own_line p Columns c = c % p.size.w
+
+abbrev pub own_number : Light → RunKind → ℕ → ℕ
+own_number p Rows c = c % p.size.w
+own_number p Columns c = c / p.size.w
+
+abbrev pub cell_on : Light → RunKind → ℕ → ℕ → ℕ
+cell_on p Rows line k = line * p.size.w + k
+cell_on p Columns line k = k * p.size.w + line
+
+pub own-cell : (p : Light) (kind : RunKind) (c : ℕ) → cell_on p kind (own_line p kind c) (own_number p kind c) ≡ c
+own-cell p Rows c = omega arith
+own-cell p Columns c = omega arith
+
+-- what is joined in it, its runs, and where they begin
+abbrev pub joined_on : Light → RunKind → ℕ → ℕ → Bool
+joined_on p Rows = joined_in_row p
+joined_on p Columns = joined_in_column p
+
+abbrev pub run_on : Light → RunKind → ℕ → List ℕ
+run_on p Rows = row_run p
+run_on p Columns = column_run p
+
+abbrev pub begins_on : Light → RunKind → ℕ → Bool
+begins_on p Rows = begins_row_run p
+begins_on p Columns = begins_column_run p
+
+pub line-parts : (p : Light) (kind : RunKind) (c d : ℕ) → joined_on p kind c d ≡ true → (own_line p kind c ≡ own_line p kind d)
+    × (clear (λ k. white p (cell_on p kind (own_line p kind c) k)) (own_number p kind c) (own_number p kind d) ≡ true)
+unfolding joined_in_row joined_in_column
+line-parts p Rows c d on = let w = and_parts _ _ on in (eqb-true _ _ w.0, w.1)
+line-parts p Columns c d on = let w = and_parts _ _ on in (eqb-true _ _ w.0, w.1)
+
+pub line-joined : (p : Light) (kind : RunKind) (c d : ℕ) → own_line p kind c ≡ own_line p kind d
+    → clear (λ k. white p (cell_on p kind (own_line p kind c) k)) (own_number p kind c) (own_number p kind d) ≡ true → joined_on p kind c d ≡ true
+unfolding joined_in_row joined_in_column
+line-joined p Rows c d same on = and_from _ _ (eq-eqb _ _ same) on
+line-joined p Columns c d same on = and_from _ _ (eq-eqb _ _ same) on
+
+pub line-both : (p : Light) (kind : RunKind) (c d e : ℕ) → joined_on p kind c d ≡ true → joined_on p kind c e ≡ true → joined_on p kind d e ≡ true
+line-both p kind c d e a b =
+    let v = line-parts p kind c d a in let w = line-parts p kind c e b in
+    line-joined p kind d e (sym v.0 ∙ w.0) (rw (sym v.0) (clear-both (λ k. white p (cell_on p kind (own_line p kind c) k)) _ _ _ v.1 w.1))
+
+-- both of two joined cells are white, and a white cell is joined to itself
+module _ (p : Light) (kind : RunKind) (c d : ℕ) (on : joined_on p kind c d ≡ true) where
+  pub line-white : (k : ℕ) → min (own_number p kind c) (own_number p kind d) ≤ k → k ≤ max (own_number p kind c) (own_number p kind d)
+      → white p (cell_on p kind (own_line p kind c) k) ≡ true
+  line-white k = clear-at (λ k. white p (cell_on p kind (own_line p kind c) k)) _ _ k (line-parts p kind c d on).1
+
+  pub line-start : white p c ≡ true
+  line-start = rw (own-cell p kind c) at (line-white (own_number p kind c) (omega arith) (omega arith))
+
+  pub line-end : white p d ≡ true
+  line-end =
+      let here : cell_on p kind (own_line p kind c) (own_number p kind d) ≡ d = rw (line-parts p kind c d on).0 (own-cell p kind d) in
+      rw here at (line-white (own_number p kind d) (omega arith) (omega arith))
+
+pub line-self : (p : Light) (kind : RunKind) (c : ℕ) → white p c ≡ true → joined_on p kind c c ≡ true
+unfolding joined_in_row joined_in_column
+line-self p Rows c on = grind (arith, common_steps, and_from, eq-eqb, clear-from)
+line-self p Columns c on = grind (arith, common_steps, and_from, eq-eqb, clear-from)
+
+-- seeing goes both ways
+pub sees_back : (p : Light) (a b : ℕ) → white p a ≡ true → sees p a b ≡ true → sees p b a ≡ true
+unfolding sees
+sees_back p a b on seen = grind (arith, common_steps, line-both p Rows a b a, line-self p Rows a, line-both p Columns a b a, line-self p Columns a)
+
+-- joined cells have one run
+joined-same : (p : Light) (kind : RunKind) (c d : ℕ) → white p c ≡ true → joined_on p kind c d ≡ true → (e : ℕ) → joined_on p kind c e ≡ joined_on p kind d e
+joined-same p kind c d before on e =
+    let back = line-both p kind c d c on (line-self p kind c before) in
+    grind (arith, common_steps, cases_Bool, line-both, on, false_from_ne_true, back)
+
+line-run-same : (p : Light) (kind : RunKind) (c d : ℕ) → white p c ≡ true → joined_on p kind c d ≡ true → run_on p kind c ≡ run_on p kind d
+unfolding row_run column_run
+line-run-same p Rows c d before on =
+    filter_agree _ _ (joined-same p Rows c d before on) _ ∙ ap (λ y. filter (joined_in_row p d) (row_places p.size y)) (line-parts p Rows c d on).0
+line-run-same p Columns c d before on =
+    filter_agree _ _ (joined-same p Columns c d before on) _ ∙ ap (λ x. filter (joined_in_column p d) (column_places p.size x)) (line-parts p Columns c d on).0
+
+-- the run of a line goes on at a white cell, unless one begins there
+row-next : (p : Light) (c d : ℕ) → 0 < p.size.w → c + 1 ≡ d → white p c ≡ true → white p d ≡ true → (d % p.size.w ≡ 0 → ⊥) → joined_in_row p c d ≡ true
 unfolding joined_in_row
-row-parts p c d on = let w = and_parts _ _ on in (eqb-true _ _ w.0, w.1)
+row-next p c d some next before on inner =
+    let parts : (c / p.size.w ≡ d / p.size.w) × (c % p.size.w ≡ d % p.size.w - 1) = grind (arith, common_steps, cell-parts) in
+    grind (arith, common_steps, and_from, eq-eqb, parts, clear-from, cases_eq)
 
-pub column-parts : (p : Light) (c d : ℕ) → joined_in_column p c d ≡ true → (c % p.size.w ≡ d % p.size.w)
-    × (clear (λ y. white p (y * p.size.w + c % p.size.w)) (c / p.size.w) (d / p.size.w) ≡ true)
+pub column-next : (p : Light) (c d : ℕ) → 0 < p.size.w → c + p.size.w ≡ d → white p c ≡ true → white p d ≡ true → joined_in_column p c d ≡ true
 unfolding joined_in_column
-column-parts p c d on = grind (arith, common_steps, and_parts, eqb-true)
+column-next p c d some next before on =
+    let below : (d / p.size.w ≡ c / p.size.w + 1) × (d % p.size.w ≡ c % p.size.w) = rw (sym next) (cell-below c some) in
+    grind (arith, common_steps, and_from, eq-eqb, below, clear-from, cases_eq, whole-cell)
 
-pub row-both : (p : Light) (c d e : ℕ) → joined_in_row p c d ≡ true → joined_in_row p c e ≡ true → joined_in_row p d e ≡ true
-unfolding joined_in_row
-row-both p c d e a b =
-    let v = row-parts p c d a in let w = row-parts p c e b in
-    and_from _ _ (eq-eqb _ _ (sym v.0 ∙ w.0))
-    (rw (sym v.0) (clear-both (λ x. white p (c / p.size.w * p.size.w + x)) _ _ _ v.1 w.1))
-
-pub column-both : (p : Light) (c d e : ℕ) → joined_in_column p c d ≡ true → joined_in_column p c e ≡ true → joined_in_column p d e ≡ true
-unfolding joined_in_column
-column-both p c d e a b =
-    let v = column-parts p c d a in let w = column-parts p c e b in
-    and_from _ _ (eq-eqb _ _ (sym v.0 ∙ w.0))
-    (rw (sym v.0) (clear-both (λ y. white p _) _ _ _ v.1 w.1))
-
-pub row-white-end : (p : Light) (c d : ℕ) → 0 < p.size.w → joined_in_row p c d ≡ true → white p d ≡ true
-row-white-end p c d pos on =
-    let v = row-parts p c d on in let e : c / p.size.w * p.size.w + d % p.size.w ≡ d = rw v.0 (omega arith) in
-    rw e at (clear-at (λ x. white p (c / p.size.w * p.size.w + x)) (c % p.size.w) (d % p.size.w) (d % p.size.w) v.1 (omega arith) (omega arith))
-
-pub column-white-end : (p : Light) (c d : ℕ) → 0 < p.size.w → joined_in_column p c d ≡ true → white p d ≡ true
-column-white-end p c d pos on =
-    let v = column-parts p c d on in let e : d / p.size.w * p.size.w + c % p.size.w ≡ d = rw v.0 (omega arith) in
-    rw e at (clear-at (λ y. white p (y * p.size.w + c % p.size.w)) (c / p.size.w) (d / p.size.w) (d / p.size.w) v.1 (omega arith) (omega arith))
-
--- a white cell is joined to itself
-pub row-self : (p : Light) (c : ℕ) → white p c ≡ true → joined_in_row p c c ≡ true
-unfolding joined_in_row
-row-self p c on = grind (arith, common_steps, and_from, eq-eqb, clear-from)
-
-pub column-self : (p : Light) (c : ℕ) → white p c ≡ true → joined_in_column p c c ≡ true
-unfolding joined_in_column
-column-self p c on = grind (arith, common_steps, and_from, eq-eqb, clear-from)
-
--- the run of a row goes on at a white cell, unless one begins there
-module _ (p : Light) (c d : ℕ) (some : 0 < p.size.w) (next : c + 1 ≡ d) (before : white p c ≡ true) (on : white p d ≡ true) (inner : d % p.size.w ≡ 0 → ⊥) where
-  parts : (c / p.size.w ≡ d / p.size.w) × (c % p.size.w ≡ d % p.size.w - 1)
-  parts = grind (arith, common_steps, cell-parts)
-
-  pub row-next : joined_in_row p c d ≡ true
-  unfolding joined_in_row
-  row-next = grind (arith, common_steps, and_from, eq-eqb, parts, clear-from, cases_eq)
-
-  row-run-next : row_run p c ≡ row_run p d
-  unfolding row_run
-  row-run-next =
-      filter_agree (joined_in_row p c) (joined_in_row p d) same (row_places p.size (c / p.size.w))
-      ∙ ap (λ y. filter (joined_in_row p d) (row_places p.size y)) parts.0
-    where
-      back : joined_in_row p d c ≡ true
-      back = row-both p c d c row-next (row-self p c before)
-
-      same : (e : ℕ) → joined_in_row p c e ≡ joined_in_row p d e
-      same e = grind (arith, common_steps, cases_Bool, row-both, row-next, false_from_ne_true, back)
-
--- a white cell where none begins comes after a white one
-pub row-before : (p : Light) (d : ℕ) → begins_row_run p d ≡ false → white p d ≡ true → (d % p.size.w ≡ 0 → ⊥) × (white p (d - 1) ≡ true)
-unfolding begins_row_run
-row-before p d off on = grind (arith, common_steps, parts, or_parts, eq-eqb, not-false)
-
-pub row-run-on : (p : Light) (d : ℕ) → 0 < p.size.w → begins_row_run p d ≡ false → white p d ≡ true
-    → (c : ℕ) × (c + 1 ≡ d) × (white p c ≡ true) × (row_run p c ≡ row_run p d)
-row-run-on p d some off on =
-    let v = row-before p d off on in let next : d - 1 + 1 ≡ d = omega (arith, positive v.0) in
-    (d - 1, next, v.1, row-run-next p (d - 1) d some next v.1 on v.0)
-  where
-    positive : (d % p.size.w ≡ 0 → ⊥) → 0 < d
-    positive ne = elim (cases_eq d 0) [ inl none ↦ absurd (ne (rw none (omega arith))) | inr more ↦ omega arith ]
-
--- and the run of a column
-module _ (p : Light) (c d : ℕ) (some : 0 < p.size.w) (next : c + p.size.w ≡ d) (before : white p c ≡ true) (on : white p d ≡ true) where
-  below : (d / p.size.w ≡ c / p.size.w + 1) × (d % p.size.w ≡ c % p.size.w)
-  below = rw (sym next) (cell-below c some)
-
-  pub column-next : joined_in_column p c d ≡ true
-  unfolding joined_in_column
-  column-next = grind (arith, common_steps, and_from, eq-eqb, below, clear-from, cases_eq, whole-cell)
-
-  pub column-run-next : column_run p c ≡ column_run p d
-  unfolding column_run
-  column-run-next =
-      filter_agree (joined_in_column p c) (joined_in_column p d) same
-      (column_places p.size (c % p.size.w))
-      ∙ ap (λ x. filter (joined_in_column p d) (column_places p.size x)) (sym below.1)
-    where
-      back : joined_in_column p d c ≡ true
-      back = column-both p c d c column-next (column-self p c before)
-
-      same : (e : ℕ) → joined_in_column p c e ≡ joined_in_column p d e
-      same e = grind (arith, common_steps, cases_Bool, column-both, column-next, false_from_ne_true, back)
-
-pub column-run-on : (p : Light) (d : ℕ) → 0 < p.size.w → begins_column_run p d ≡ false
-    → white p d ≡ true → (c : ℕ) × (c + p.size.w ≡ d) × (white p c ≡ true)
-    × (column_run p c ≡ column_run p d)
-unfolding begins_column_run
-column-run-on p d some off on =
+pub line-run-on : (p : Light) (kind : RunKind) (d : ℕ) → 0 < p.size.w → begins_on p kind d ≡ false → white p d ≡ true
+    → (c : ℕ) × (c < d) × (white p c ≡ true) × (run_on p kind c ≡ run_on p kind d)
+unfolding begins_row_run begins_column_run
+line-run-on p Rows d some off on =
+    let parts = or_parts (eqb (d % p.size.w) 0) (not (white p (d - 1))) (rw on at off) in
+    let before = not-false _ parts.1 in
+    let inner : d % p.size.w ≡ 0 → ⊥ = eqb-false _ _ parts.0 in
+    let pos : 0 < d = grind (arith, common_steps, cases_eq d 0) in
+    (d - 1, omega (arith, pos), before, line-run-same p Rows (d - 1) d before (row-next p (d - 1) d some (omega (arith, pos)) before on inner))
+line-run-on p Columns d some off on =
     let parts = or_parts (eqb (d / p.size.w) 0) (not (white p (d - p.size.w))) (rw on at off) in
-    let before = not-false _ parts.1 in let next : d - p.size.w + p.size.w ≡ d = omega (arith, low parts.0) in
-    (d - p.size.w, next, before, column-run-next p (d - p.size.w) d some next before on)
-  where
-    low : eqb (d / p.size.w) 0 ≡ false → p.size.w ≤ d
-    low ne = grind (arith, common_steps, cases_lt, eq-eqb, div-eq_of_lt)
+    let before = not-false _ parts.1 in
+    let low : p.size.w ≤ d = grind (arith, common_steps, cases_lt, eq-eqb, div-eq_of_lt) in
+    (d - p.size.w, omega (arith, low, some), before, line-run-same p Columns (d - p.size.w) d before (column-next p (d - p.size.w) d some (omega (arith, low)) before on))
 
 -- a white cell lies in the grid
 pub white-in : (p : Light) (c : ℕ) → length p.cells ≡ light_cells p → white p c ≡ true → c < light_cells p

@@ -1,15 +1,16 @@
 -- Visits of the white cells of Light Up on planes.
-use Rattle.fields_core.proofs.Common.{ArePieces, ArePlanesAlive, AreVisited, Bool, Column, Extent, IsColumnRun, IsFurther, IsHouse, IsHouseOfPieces, IsLight, IsRowRun, Layers, Light, List, Piece, Row, and-false, and-true, and_from, and_parts, any_below, any_below-none, any_below-some, ap, arith, cases_Bool, cases_eq, column_house, column_run, common_steps, count_below, count_below-pos, count_below-same, crosses, distinct-from, div-mul-add, eq-eqb, eqb, eqb-true, false, false_from_ne_true, has_bit, has_place, houses_below, joined_in_column, joined_in_row, length, lies_in, lies_in_first, light_cells, light_houses, lit_house, lt-ltb, ltb-true, mod-lt, ne_eqb, not, number_house, one_at_least, place-column, place-in, refl, row_house, row_run, seen_from, subst, sym, true, true≢false, white, ℕ, ◌%◌, ◌&&◌, ◌*◌, ◌+◌, ◌/◌, ◌<◌, ◌∙◌, ◌≡◌, ◌≤◌}
+use Rattle.fields_core.proofs.Common.{ArePieces, ArePlanesAlive, AreVisited, Bool, Column, Extent, IsColumnRun, IsFurther, IsHouse, IsHouseOfPieces, IsLight, IsRowRun, Layers, Light, List, Piece, Row, and-false, and-true, and_from, and_parts, any_below, any_below-none, any_below-some, ap, arith, cases_Bool, cases_eq, column_house, column_run, common_steps, count_below, count_below-pos, count_below-same, crosses, distinct-from, div-mul-add, eq-eqb, eqb, eqb-true, false, false_from_ne_true, has_bit, has_place, houses_below, joined_in_row, length, lies_in, lies_in_first, light_cells, light_houses, lit_house, lt-ltb, ltb-true, ne_eqb, not, number_house, one_at_least, place-column, place-in, refl, row_house, row_run, seen_from, subst, sym, true, true≢false, white, ℕ, ◌%◌, ◌&&◌, ◌*◌, ◌+◌, ◌/◌, ◌<◌, ◌∙◌, ◌≡◌, ◌≤◌}
 use Rattle.fields_core.proofs.CellLemmas.{has-append, place-count, same-truth}
-use Rattle.fields_core.proofs.LightRuleLemmas.{column-run-joined, in-column-run, in-row-run, light-board, light-counting, row-run-joined}
-use Rattle.fields_core.proofs.LightHouseLaws.{column-parts, column-white-end, row-parts, row-self, white-in}
+use Rattle.fields_core.proofs.LightRuleLemmas.{light-board, light-counting}
+use Rattle.fields_core.proofs.LightHouseLaws.{line-self, line-start}
+use Rattle.fields_core.proofs.LightRunOrder.{line-run-has}
 use Rattle.fields_core.proofs.LightNumberVisits.{both_pieces, lies-both, pieces-apart}
-use Rattle.fields_core.proofs.LightRunOrder.{row-white-start}
 use Rattle.fields_core.proofs.PartLemmas.{counted-more, counted-none}
 use Rattle.fields_core.proofs.PlaceLists.{count-every, filter-has}
-use Rattle.fields_core.proofs.BesideLemmas.{cell-in, row-in, whole-cell}
+use Rattle.fields_core.proofs.BesideLemmas.{whole-cell}
 use Rattle.fields_core.proofs.TentCounting.{IsVisitOfPieces}
 use Rattle.fields_core.proofs.VisitLemmas.{among-back, among-below, among-house, among-one, visited-none, visited-one}
+use Rattle.fields_core.specs.declared.planes.light_up.waits.RunKind.TheVariants.{Columns, Rows}
 
 -- ---- the house of a white cell is a house
 pub lit-is : {p : Light} {c : ℕ} → IsLight p → c < light_cells p → white p c ≡ true → IsHouse (light_cells p) (one_at_least (seen_from p c))
@@ -51,39 +52,13 @@ module _ {p : Light} {y x row_bits column_bits others : ℕ} {from : Layers} {ro
   cell_in : cell < light_cells p
   cell_in = place-in p.size.w p.size.h y x y_in x_in
 
-  at_row : (c : ℕ) → c / p.size.w ≡ y → cell / p.size.w * p.size.w + c % p.size.w ≡ c
-  at_row c same = rw (div-mul-add y p.size.w x x_in, ← same) (sym (whole-cell p.size.w c))
-
-  at_column : (c : ℕ) → c % p.size.w ≡ x → c / p.size.w * p.size.w + cell % p.size.w ≡ c
-  at_column c same = rw (place-column p.size.w y x x_in, ← same) (sym (whole-cell p.size.w c))
-
   row-run-has : (c : ℕ) → has_place (row_run p cell) c ≡ crosses (Row y) row_bits (c / p.size.w) (c % p.size.w)
   unfolding crosses
-  row-run-has c = same-truth _ _
-      (λ there.
-      let joined = row-run-joined p cell c there in
-      let same : c / p.size.w ≡ y = sym (row-parts p cell c joined).0 ∙ div-mul-add y p.size.w x x_in in
-      and_from _ _ (eq-eqb _ _ same)
-      (s.row_is (c % p.size.w) ∙ and_from _ _ (lt-ltb _ _ (mod-lt c some)) (ap (joined_in_row p cell) (at_row c same) ∙ joined)))
-      (λ on.
-      let parts = and_parts _ _ on in let same = eqb-true _ _ parts.0 in
-      let joined = (and_parts _ _ (sym (s.row_is (c % p.size.w)) ∙ parts.1)).1 in
-      in-row-run p cell c some (ap (joined_in_row p cell) (sym (at_row c same)) ∙ joined))
+  row-run-has c = rw (div-mul-add y p.size.w x x_in) at (line-run-has Rows cell row_bits (light-board s.lawful) s.row_is c)
 
   column-run-has : (c : ℕ) → has_place (column_run p cell) c ≡ crosses (Column x) column_bits (c / p.size.w) (c % p.size.w)
   unfolding crosses
-  column-run-has c = same-truth _ _
-      (λ there.
-      let joined = column-run-joined p cell c there in
-      let same : c % p.size.w ≡ x = sym (column-parts p cell c joined).0 ∙ place-column p.size.w y x x_in in
-      let inside = white-in p c (light-board s.lawful).long (column-white-end p cell c some joined) in
-      and_from _ _ (eq-eqb _ _ same)
-      (s.column_is (c / p.size.w) ∙ and_from _ _ (lt-ltb _ _ (row-in p.size.h c some inside)) (ap (joined_in_column p cell) (at_column c same) ∙ joined)))
-      (λ on.
-      let parts = and_parts _ _ on in let same = eqb-true _ _ parts.0 in
-      let both = and_parts _ _ (sym (s.column_is (c / p.size.w)) ∙ parts.1) in
-      let inside = cell-in p.size.h some (ltb-true _ _ both.0) in
-      in-column-run p cell some inside (ap (joined_in_column p cell) (sym (at_column c same)) ∙ both.1))
+  column-run-has c = rw (place-column p.size.w y x x_in) at (line-run-has Columns cell column_bits (light-board s.lawful) s.column_is c)
 
   -- the others of the column are those at other places
   other-at : (c : ℕ) → c % p.size.w ≡ x → eqb c cell ≡ eqb (c / p.size.w) y
@@ -95,7 +70,7 @@ module _ {p : Light} {y x row_bits column_bits others : ℕ} {from : Layers} {ro
 
   -- a white cell has itself in its run, a black one has no run
   white-run : any_below (has_bit row_bits) room ≡ true → white p cell ≡ true
-  white-run on = grind (arith, common_steps, any_below-some, row-white-start, and_parts)
+  white-run on = grind (arith, common_steps, any_below-some, line-start p Rows, and_parts)
 
   pub black-visited : any_below (has_bit row_bits) room ≡ false → AreVisited (lit_house p cell) from from true
   black-visited none = rw black (visited-none s.alive)
@@ -103,7 +78,7 @@ module _ {p : Light} {y x row_bits column_bits others : ℕ} {from : Layers} {ro
       black : white p cell ≡ false
       black = false_from_ne_true _ (λ on.
           let here : cell / p.size.w * p.size.w + x ≡ cell = rw (div-mul-add y p.size.w x x_in) refl in
-          let own = ap (joined_in_row p cell) here ∙ row-self p cell on in
+          let own = ap (joined_in_row p cell) here ∙ line-self p Rows cell on in
           true≢false (sym (s.row_is x ∙ and_from _ _ (lt-ltb _ _ x_in) own) ∙ any_below-none (has_bit row_bits) room none x (omega (arith, s.wide))))
 
   -- ---- the house as pieces of the two lines

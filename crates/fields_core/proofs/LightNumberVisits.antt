@@ -1,5 +1,5 @@
 -- Visits of the numbers of Light Up on planes.
-use Rattle.fields_core.proofs.Common.{ArePieces, ArePlanesAlive, AreVisited, Black, Bool, Column, Extent, IsBroken, IsColumnOf, IsFurther, IsHouse, IsHouseOfPieces, IsLight, Layers, Light, List, Numbered, Piece, Row, [], after_house, after_visits, and-false, and_from, and_parts, any_below, any_below-none, any_below-some, arith, beside, cases_Bool, cases_eq, cases_lt, common_steps, crosses, div-mul-add, eq-eqb, eqb, eqb-true, exactly, false, filter, fun_ext, further-none, get_or, get_or-set_other, get_or-set_same, planes_have, has_bit, has_place, inl, inr, le-ltb, length, length-map, lies_in, lies_in_first, light_cells, light_houses, lines_beside, lt-ltb, ltb, ltb-true, map, map-set, ne_eqb, not, number_house, number_of, or_cases, or_left, or_parts, or_right, piece_at, place-column, place-in, refl, set, slice_index, subst, suc, sym, true, white, zero, ℕ, ◌%◌, ◌&&◌, ◌*◌, ◌+◌, ◌-◌, ◌/◌, ◌<◌, ◌||◌, ◌∙◌, ◌∷◌, ◌≡◌, ◌≤◌}
+use Rattle.fields_core.proofs.Common.{ArePieces, ArePlanesAlive, AreVisited, Black, Bool, Column, Extent, IsBroken, IsColumnOf, IsFurther, IsHouse, IsHouseOfPieces, IsLight, Layers, Light, List, Numbered, Piece, Row, [], after_house, after_visits, and-false, and_from, and_parts, any_below, any_below-none, any_below-some, arith, beside, cases_Bool, cases_eq, cases_lt, common_steps, crosses, div-mul-add, eq-eqb, eqb, eqb-true, exactly, false, filter, fun_ext, further-none, get_or, get_or-set_other, get_or-set_same, planes_have, has_bit, has_place, inl, inr, le-ltb, length, length-map, lies_in, lies_in_first, light_cells, light_houses, ltb, ltb-true, map, map-set, ne_eqb, not, number_house, or_cases, or_left, or_parts, or_right, place-column, place-in, refl, set, slice_index, subst, sym, true, white, ℕ, ◌%◌, ◌&&◌, ◌*◌, ◌+◌, ◌-◌, ◌/◌, ◌<◌, ◌||◌, ◌∙◌, ◌∷◌, ◌≡◌, ◌≤◌}
 use Rattle.fields_core.proofs.VisitLemmas.{among-below, among-front, among-house, among-one, others-stay, visited-dies, visited-left, visited-none}
 use Rattle.fields_core.proofs.CellLemmas.{cell-is, same-truth}
 use Rattle.fields_core.proofs.LightRuleLemmas.{light-counting}
@@ -27,57 +27,17 @@ abbrev next_to : ℕ → ℕ → ℕ → Bool
 next_to n a k = (ltb 0 a && eqb k (a - 1)) || (ltb (a + 1) n && eqb k (a + 1))
 
 next-is : {n a : ℕ} (k : ℕ) → a < n → next_to n a k ≡ ((eqb k (a + 1) || eqb a (k + 1)) && ltb k n)
-next-is {n} {a} k lt = same-truth _ _
-    (λ on. elim (or_cases (ltb 0 a && eqb k (a - 1)) (ltb (a + 1) n && eqb k (a + 1)) on) [
-      | inl before ↦
-          let parts = and_parts (ltb 0 a) (eqb k (a - 1)) before in let pos = ltb-true 0 a parts.0 in
-          let e = eqb-true k (a - 1) parts.1 in
-          and_from _ _ (or_right _ _ (eq-eqb a (k + 1) (omega arith))) (lt-ltb k n (omega arith))
-      | inr after ↦
-          let parts = and_parts (ltb (a + 1) n) (eqb k (a + 1)) after in
-          let less = ltb-true (a + 1) n parts.0 in let e = eqb-true k (a + 1) parts.1 in
-          and_from _ _ (or_left _ _ parts.1) (lt-ltb k n (omega arith))
-    ])
-    (λ on.
-    let parts = and_parts (eqb k (a + 1) || eqb a (k + 1)) (ltb k n) on in let less = ltb-true k n parts.1 in
-    elim (or_cases (eqb k (a + 1)) (eqb a (k + 1)) parts.0) [
-      | inl after ↦ let e = eqb-true k (a + 1) after in or_right _ _ (and_from _ _ (lt-ltb (a + 1) n (omega arith)) after)
-      | inr before ↦
-          let e = eqb-true a (k + 1) before in
-          or_left _ _ (and_from _ _ (lt-ltb 0 a (omega arith)) (eq-eqb k (a - 1) (omega arith)))
-    ])
+next-is {n} {a} k lt = grind (arith, common_steps, same-truth, and_from, or_right, or_left)
 
 beside-cell : (size : Extent) (y : ℕ) {x : ℕ} (d : ℕ) → x < size.w → has_place (beside size (y * size.w + x)) d
     ≡ ((eqb (d / size.w) y && next_to size.w x (d % size.w)) || (eqb (d % size.w) x && next_to size.h y (d / size.w)))
-beside-cell size y {x} d lt =
-    beside-has size y d lt
-    ∙ rw (cell-is size.w (y - 1) x d lt, cell-is size.w (y + 1) x d lt, left, right)
-    (four (ltb 0 y) (eqb (d / size.w) (y - 1)) (ltb 0 x) (eqb (d % size.w) (x - 1)) (ltb (x + 1) size.w) (eqb (d % size.w) (x + 1)) (ltb (y + 1) size.h) (eqb (d / size.w) (y + 1)) (eqb (d / size.w) y) (eqb (d % size.w) x))
-  where
-    left : (ltb 0 x && eqb (y * size.w + (x - 1)) d) ≡ (ltb 0 x && (eqb (d / size.w) y && eqb (d % size.w) (x - 1)))
-    left = rw (cell-is size.w y (x - 1) d (omega arith)) refl
-
-    right : (ltb (x + 1) size.w && eqb (y * size.w + (x + 1)) d) ≡ (ltb (x + 1) size.w && (eqb (d / size.w) y && eqb (d % size.w) (x + 1)))
-    right = grind (arith, common_steps, cases_lt, cell-is, le-ltb)
-
-    two : (a b c d e : Bool) → ((a && (e && b)) || (c && (e && d))) ≡ (e && ((a && b) || (c && d)))
-    two a b c d e = grind (arith, common_steps, cases_Bool a, cases_Bool b, cases_Bool c, cases_Bool e)
-
-    ends : (a b c d f : Bool) → ((a && (b && f)) || (c && (d && f))) ≡ (f && ((a && b) || (c && d)))
-    ends a b c d f = grind (arith, common_steps, cases_Bool a, cases_Bool b, cases_Bool c, cases_Bool d, cases_Bool f)
-
-    turn : (u l r d : Bool) → (((u || l) || r) || d) ≡ ((l || r) || (u || d))
-    turn u l r d = grind (arith, common_steps, cases_Bool u, cases_Bool l, cases_Bool r, cases_Bool d)
-
-    four : (a b g h i j k l e f : Bool) → ((((a && (b && f)) || (g && (e && h))) || (i && (e && j))) || (k && (l && f)))
-        ≡ ((e && ((g && h) || (i && j))) || (f && ((a && b) || (k && l))))
-    four a b g h i j k l e f = turn (a && (b && f)) (g && (e && h)) (i && (e && j)) (k && (l && f)) ∙ rw (two g h i j e, ends a b k l f) refl
+beside-cell size y {x} d lt = grind (arith, common_steps, beside-has, cell-is, ltb, eqb, cases_lt, le-ltb, cases_Bool)
 
 -- ---- the white cells beside a cell, as words of its row and of its column
 abbrev pub both_pieces : ℕ → ℕ → ℕ → ℕ → List Piece
 both_pieces y x row column = record { line = Row y; bits = row } ∷ record { line = Column x; bits = column } ∷ []
 
--- the word has those of the numbers beside one that pass
+-- the word planes_have those of the numbers beside one that pass
 abbrev pub IsBeside : ℕ → (ℕ → Bool) → ℕ → ℕ → Type 0
 IsBeside n passes a bits = (k : ℕ) → has_bit bits k ≡ ((eqb k (a + 1) || eqb a (k + 1)) && (ltb k n && passes k))
 
@@ -101,26 +61,7 @@ lies-both w y x row column d = refl
 pub pieces-apart : (size : Extent) {y x : ℕ} (row column : ℕ) → y < size.h → x < size.w → (has_bit row x ≡ true → has_bit column y ≡ true → ⊥)
     → ArePieces size (both_pieces y x row column)
 unfolding lies_in crosses
-pieces-apart size {y} {x} row column y_in x_in off = record { lines_in = lines; apart = apart }
-  where
-    pieces : List Piece
-    pieces = both_pieces y x row column
-
-    lines : (k : ℕ) → k < 2 → number_of (piece_at pieces k).line < lines_beside size (piece_at pieces k).line
-    lines zero less = y_in
-    lines (suc zero) less = x_in
-    lines (suc (suc k)) less = absurd (omega arith)
-
-    never : (c : ℕ) → lies_in size.w (piece_at pieces 0) c ≡ true → lies_in size.w (piece_at pieces 1) c ≡ true → ⊥
-    never c on_row on_column = grind (arith, common_steps, and_parts, eqb-true)
-
-    apart : (j k c : ℕ) → j < 2 → k < 2 → lies_in size.w (piece_at pieces j) c ≡ true → lies_in size.w (piece_at pieces k) c ≡ true → j ≡ k
-    apart zero zero c lj lk on_j on_k = refl
-    apart zero (suc zero) c lj lk on_j on_k = absurd (never c on_j on_k)
-    apart (suc zero) zero c lj lk on_j on_k = absurd (never c on_k on_j)
-    apart (suc zero) (suc zero) c lj lk on_j on_k = refl
-    apart (suc (suc j)) k c lj lk on_j on_k = absurd (omega arith)
-    apart j (suc (suc k)) c lj lk on_j on_k = absurd (omega arith)
+pieces-apart size {y} {x} row column y_in x_in off = grind (arith, common_steps, and_parts, eqb-true)
 
 module _ (p : Light) (lawful : IsLight p) (y x row column : ℕ) (y_in : y < p.size.h) (x_in : x < p.size.w)
     (row_is : IsBeside p.size.w (λ k. white p (y * p.size.w + k)) x row) (column_is : IsBeside p.size.h (λ k. white p (k * p.size.w + x)) y column) where
@@ -132,9 +73,6 @@ module _ (p : Light) (lawful : IsLight p) (y x row column : ℕ) (y_in : y < p.s
 
   abbrev places : List ℕ
   places = filter (white p) (beside p.size cell)
-
-  some : 0 < p.size.w
-  some = omega (arith, x_in)
 
   cell_in : cell < light_cells p
   cell_in = place-in p.size.w p.size.h y x y_in x_in
@@ -160,7 +98,7 @@ module _ (p : Light) (lawful : IsLight p) (y x row column : ℕ) (y_in : y < p.s
     unfolding after_visits
     number-filled {to} left alive further = rw numbered (visited-left left alive further)
 
-    -- a house that has no filling, if it has a cell
+    -- a house that planes_have no filling, if it planes_have a cell
     pub number-short : {room : ℕ} (both : ℕ) {to : Layers} {any : Bool} → p.size.w ≤ room → p.size.h ≤ room
         → ((k : ℕ) → has_bit both k ≡ (has_bit row k || has_bit column k)) → any ≡ any_below (has_bit both) room
         → IsBroken (exactly n places) (planes_have from) → to ≡ from → ArePlanesAlive from → AreVisited (number_house p cell) from to (not any)

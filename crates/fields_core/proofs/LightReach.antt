@@ -2,10 +2,11 @@
 use Rattle.fields_core.proofs.Common.{AreColumnsParted, AreIdleBut, AreParted, ArePlanesAlive, Bool, Candidates, Column, IsAway, IsLeast, IsLight, IsReach, IsRowOf, Layers, Light, Line, Row, Touched, ℕ, [], after_visits, and-false, and_from, any_below, any_below-none, ap, arith, at_line, cases_Bool, cases_lt, clear, common_steps, div-mul-add, eqb, false, false_from_ne_true, has_bit, has_place, houses_below, inl, inr, is_numbered, joined_in_column, joined_in_row, le-ltb, light_cells, line_len, lines_beside, lt-ltb, ltb, max, min, not, number_house, number_of, numbers_of_row, place-append, place-column, place-filter, place-in, refl, seen_from, sym, true, true≢false, white, ◌%◌, ◌&&◌, ◌*◌, ◌+◌, ◌/◌, ◌<◌, ◌∙◌, ◌≡◌, ◌≤◌, ◌⊎◌}
 use Rattle.fields_core.proofs.VisitLemmas.{below-rows}
 use Rattle.fields_core.proofs.CellLemmas.{has-at}
-use Rattle.fields_core.proofs.LightRuleLemmas.{column-run-joined, light-board, row-run-joined}
+use Rattle.fields_core.proofs.LightRuleLemmas.{light-board, line-run-joined}
 use Rattle.fields_core.proofs.IdleLemmas.{rest-off, rest-on}
-use Rattle.fields_core.proofs.LightHouseLaws.{clear-at, clear-from, column-parts, column-white-end, row-parts, white-in}
+use Rattle.fields_core.proofs.LightHouseLaws.{clear-at, clear-from, line-end, line-parts, white-in}
 use Rattle.fields_core.proofs.BesideLemmas.{row-in}
+use Rattle.fields_core.specs.declared.planes.light_up.waits.RunKind.TheVariants.{Columns, Rows}
 
 -- The numbers of a row of Light Up: those that wait, by a word of its numbered cells.
 
@@ -87,7 +88,7 @@ live-parted p _ live {room} {x} y k alive none narrow lt on low high = false_fro
 -- those that a white cell sees are of its row, or joined to it in its column
 seen-parts : (p : Light) (c d : ℕ) → has_place (seen_from p c) d ≡ true → (joined_in_row p c d ≡ true) ⊎ (joined_in_column p c d ≡ true)
 unfolding seen_from
-seen-parts p c d on = grind (arith, common_steps, place-append, row-run-joined, column-run-joined, place-filter)
+seen-parts p c d on = grind (arith, common_steps, place-append, line-run-joined p Rows, line-run-joined p Columns, place-filter)
 
 module _ {W : Type 0} (bits : W → ℕ) (p : Light) (lines : Touched W) (lawful : IsLight p) where
   pub away-from : {y x : ℕ} → y < p.size.h → x < p.size.w → (has_bit (bits lines.rows) y ≡ true → ⊥)
@@ -96,12 +97,12 @@ module _ {W : Type 0} (bits : W → ℕ) (p : Light) (lines : Touched W) (lawful
       → IsAway bits p lines (y * p.size.w + x)
   away-from {y} {x} y_in lt no_row no_column d there at = elim (seen-parts p (y * p.size.w + x) d there) [
     | inl row ↦
-        let e : y ≡ d / p.size.w = sym (div-mul-add y p.size.w x lt) ∙ (row-parts p (y * p.size.w + x) d row).0 in
+        let e : y ≡ d / p.size.w = sym (div-mul-add y p.size.w x lt) ∙ (line-parts p Rows (y * p.size.w + x) d row).0 in
         no_row (rw e at.1)
     | inr column ↦
-        let parts = column-parts p (y * p.size.w + x) d column in let board = light-board lawful in
+        let parts = line-parts p Columns (y * p.size.w + x) d column in let board = light-board lawful in
         let e : x ≡ d % p.size.w = sym (place-column p.size.w y x lt) ∙ parts.0 in
-        let inside = white-in p d board.long (column-white-end p (y * p.size.w + x) d board.some column) in
+        let inside = white-in p d board.long (line-end p Columns (y * p.size.w + x) d column) in
         no_column (d / p.size.w) (row-in p.size.h d board.some inside) at.1 (rw e at.0)
         (rw (div-mul-add y p.size.w x lt, place-column p.size.w y x lt) at parts.1)
   ]

@@ -1,7 +1,9 @@
 -- The rules of Light Up, as count houses and as the test of a grid.
 use Rattle.fields_core.proofs.Common.{AllByRecursion, AreDistinct, AreJoined, AreRight, Black, Bool, FailsLight, IsCounting, IsFromTo, IsGrid, IsKnown, IsLawful, IsLight, IsLightCell, IsLightFault, IsLightSolution, IsKindMade, TestKind, Light, LightCell, LightFault, List, NoneFails, Numbered, Option, Sees, SeesBulb, White, [], all_below-at, all_below-from, and_from, and_parts, any_below-here, any_below-some, ap, arith, black_right, bulb, bulb_right, bulbs_beside, cases_eq, cases_lt, column_house, column_run, common_steps, count-lawful, count_by-le-length, distinct-append, distinct-filter, div-mul-add, div-mul-le_self, eq-eqb, eqb, eqb-true, filter, get_or, has_place, has_place-here, inl, inr, is_some, joined_in_column, joined_in_row, known_tests, le-div, length, length-append, light_cells, light_column, light_houses, light_row, light_rules, light_tests, lit_house, lit_right, max, min, mod-lt, mod-mul-add, mul-le-mul_right, ne_eqb, none_held, none_tells, not, not-false, not-true, number_house, number_is, number_right, one_at_least, one_at_most, or_cases, or_left, or_parts, or_right, place-append, place-back, place-filter, place-front, place-kept, refl, right_none, row_house, row_run, seen_from, sees, sees_bulb, slice_index, solves_lights, steps, suc, sym, true, true≢false, white, zero, ℕ, ◌%◌, ◌&&◌, ◌*◌, ◌++◌, ◌+◌, ◌/◌, ◌<◌, ◌||◌, ◌∙◌, ◌∷◌, ◌≡◌, ◌≤◌}
+use Rattle.fields_core.specs.declared.planes.light_up.waits.RunKind.{RunKind}
+use Rattle.fields_core.specs.declared.planes.light_up.waits.RunKind.TheVariants.{Columns, Rows}
 use Rattle.fields_core.specs.LightHouses.{numbered}
-use Rattle.fields_core.proofs.LightHouseLaws.{IsMet, bulb-in, clear-at, clear-from, column-both, column-distinct, column-of, column-parts, column-white-end, lit-from, lit-parts, met-from, row-both, row-distinct, row-of, row-parts, row-self, row-white-end, some-column, white-in}
+use Rattle.fields_core.proofs.LightHouseLaws.{IsMet, bulb-in, cell_on, clear-from, column-distinct, column-of, joined_on, line-both, line-end, line-parts, line-self, line-white, lit-from, lit-parts, met-from, own-cell, own_line, own_number, row-distinct, row-of, run_on, some-column, white-in}
 use Rattle.fields_core.proofs.HouseLemmas.{all-append, all-at, all-houses, all-if, column-long, row-long}
 use Rattle.fields_core.proofs.PlaceLists.{count-filter, count-one, count-some, filter-few}
 use Rattle.fields_core.proofs.BesideLemmas.{steps-distinct, steps-few}
@@ -47,9 +49,6 @@ number-kind : {p : Light} {c : ℕ} → IsLightBoard p → c < light_cells p →
 unfolding number_right
 number-kind {p} {c} board lt = by _ refl
   where
-    places : List ℕ
-    places = filter (white p) (steps p.size c 4)
-
     by : (cell : LightCell) → get_or p.cells c Black ≡ cell → AllByRecursion (IsMet (light_cells p) (solves_lights p))
         (numbered cell (filter (white p) (steps p.size c 4)))
     by White e = tt
@@ -67,46 +66,35 @@ number-kind {p} {c} board lt = by _ refl
     )
 
 -- ---- the houses of runs
-pub row-run-joined : (p : Light) (c d : ℕ) → has_place (row_run p c) d ≡ true → joined_in_row p c d ≡ true
-unfolding row_run
-row-run-joined p c d on = grind (arith, common_steps, place-filter)
+pub line-run-joined : (p : Light) (kind : RunKind) (c d : ℕ) → has_place (run_on p kind c) d ≡ true → joined_on p kind c d ≡ true
+unfolding row_run column_run
+line-run-joined p Rows c d on = grind (arith, common_steps, place-filter)
+line-run-joined p Columns c d on = grind (arith, common_steps, place-filter)
 
-pub column-run-joined : (p : Light) (c d : ℕ) → has_place (column_run p c) d ≡ true → joined_in_column p c d ≡ true
-unfolding column_run
-column-run-joined p c d on = grind (arith, common_steps, place-filter)
+pub line-run-few : {p : Light} (kind : RunKind) (c : ℕ) → IsLightBoard p → length (run_on p kind c) ≤ 256
+unfolding row_run column_run
+line-run-few {p} Rows c board = grind (arith, common_steps, filter-few, row-long)
+line-run-few {p} Columns c board = grind (arith, common_steps, filter-few, column-long)
 
-pub row-run-few : {p : Light} (c : ℕ) → IsLightBoard p → length (row_run p c) ≤ 256
-unfolding row_run
-row-run-few {p} c board = grind (arith, common_steps, filter-few, row-long)
+line-run-distinct : {p : Light} (kind : RunKind) (c : ℕ) → IsLightBoard p → AreDistinct (run_on p kind c)
+unfolding row_run column_run
+line-run-distinct {p} Rows c board = distinct-filter _ _ (row-distinct p.size _)
+line-run-distinct {p} Columns c board = distinct-filter _ _ (column-distinct p.size _ board.some)
 
-pub column-run-few : {p : Light} (c : ℕ) → IsLightBoard p → length (column_run p c) ≤ 256
-unfolding column_run
-column-run-few {p} c board = grind (arith, common_steps, filter-few, column-long)
-
-row-run-distinct : (p : Light) (c : ℕ) → AreDistinct (row_run p c)
-unfolding row_run
-row-run-distinct p c = distinct-filter _ _ (row-distinct p.size _)
-
-pub column-run-distinct : {p : Light} (c : ℕ) → IsLightBoard p → AreDistinct (column_run p c)
-unfolding column_run
-column-run-distinct {p} c board = distinct-filter _ _ (column-distinct p.size _ board.some)
+joined-either : (p : Light) (kind : RunKind) (d e : ℕ) → joined_on p kind d e ≡ true → (joined_in_row p d e || joined_in_column p d e) ≡ true
+joined-either p Rows d e on = or_left _ _ on
+joined-either p Columns d e on = or_right _ _ on
 
 -- cells of which each sees each hold one bulb at most
-run-kind : (p : Light) {run : List ℕ} → AreDistinct run → length run ≤ 256 → ((d : ℕ) → has_place run d ≡ true → d < light_cells p)
-    → ((d e : ℕ) → has_place run d ≡ true → has_place run e ≡ true → (joined_in_row p d e || joined_in_column p d e) ≡ true)
-    → IsMet (light_cells p) (solves_lights p) (one_at_most run)
-run-kind p {run} distinct few within joined = met-from within distinct (omega arith) (omega arith) (omega arith)
-    (λ g grid good. (omega arith, count-one (bulb g) run distinct (λ d e md me bd be. no-sight p grid good d e bd be (joined d e md me))))
-
-pub row-kind : (p : Light) (c : ℕ) → IsLightBoard p → IsMet (light_cells p) (solves_lights p) (one_at_most (row_run p c))
-row-kind p c board = run-kind p (row-run-distinct p c) (row-run-few c board)
-    (λ d on. white-in p d board.long (row-white-end p c d board.some (row-run-joined p c d on)))
-    (λ d e md me. or_left _ _ (row-both p c d e (row-run-joined p c d md) (row-run-joined p c e me)))
-
-pub column-kind : (p : Light) (c : ℕ) → IsLightBoard p → IsMet (light_cells p) (solves_lights p) (one_at_most (column_run p c))
-column-kind p c board = run-kind p (column-run-distinct c board) (column-run-few c board)
-    (λ d on. white-in p d board.long (column-white-end p c d board.some (column-run-joined p c d on)))
-    (λ d e md me. or_right _ _ (column-both p c d e (column-run-joined p c d md) (column-run-joined p c e me)))
+pub line-kind : (p : Light) (kind : RunKind) (c : ℕ) → IsLightBoard p → IsMet (light_cells p) (solves_lights p) (one_at_most (run_on p kind c))
+line-kind p kind c board =
+    let few = line-run-few kind c board in let distinct = line-run-distinct kind c board in
+    met-from (λ d on. white-in p d board.long (line-end p kind c d (line-run-joined p kind c d on))) distinct (omega arith) (omega arith) (omega arith)
+    (λ g grid good. (
+      omega arith,
+      count-one (bulb g) (run_on p kind c) distinct (λ d e md me bd be. no-sight p grid good d e bd be
+          (joined-either p kind d e (line-both p kind c d e (line-run-joined p kind c d md) (line-run-joined p kind c e me)))),
+    ))
 
 -- ---- the houses of white cells
 pub in-row-run : (p : Light) (c d : ℕ) → 0 < p.size.w → joined_in_row p c d ≡ true → has_place (row_run p c) d ≡ true
@@ -121,8 +109,8 @@ lit-kind : {p : Light} {c : ℕ} → IsLightBoard p → c < light_cells p → wh
 unfolding seen_from lit_right sees_bulb sees
 lit-kind {p} {c} board lt on = met-from
     (λ d m. elim (place-append (row_run p c) others d m) [
-      | inl a ↦ (row-kind p c board).is_house.within d a
-      | inr b ↦ (column-kind p c board).is_house.within d (place-filter (λ d. not (eqb d c)) (column_run p c) d b).0
+      | inl a ↦ (line-kind p Rows c board).is_house.within d a
+      | inr b ↦ (line-kind p Columns c board).is_house.within d (place-filter (λ d. not (eqb d c)) (column_run p c) d b).0
     ])
     distinct few (omega arith) few
     (λ g grid good. let s = some-bulb grid good in (count-some (bulb g) _ s.0 s.1 s.2, count_by-le-length (bulb g) _))
@@ -131,13 +119,14 @@ lit-kind {p} {c} board lt on = met-from
     others = filter (λ d. not (eqb d c)) (column_run p c)
 
     few : length (row_run p c ++ filter (λ d. not (eqb d c)) (column_run p c)) ≤ 512
-    few = grind (arith, common_steps, length-append, row-run-few, column-run-few, filter-few)
+    few = let r = line-run-few Rows c board in let k = line-run-few Columns c board in let f = filter-few (λ d. not (eqb d c)) (column_run p c) in
+        rw (length-append (row_run p c) others) (omega arith)
 
     -- a cell of the row and of the column is the cell itself
     apart : (d : ℕ) → has_place (row_run p c) d ≡ true → has_place (filter (λ d. not (eqb d c)) (column_run p c)) d ≡ true → ⊥
     apart d a b =
-        let v = place-filter _ _ d b in let r = row-parts p c d (row-run-joined p c d a) in
-        let q = column-parts p c d (column-run-joined p c d v.0) in
+        let v = place-filter _ _ d b in let r = line-parts p Rows c d (line-run-joined p Rows c d a) in
+        let q = line-parts p Columns c d (line-run-joined p Columns c d v.0) in
         let e = same-cell p.size.w (sym r.0) (sym q.0) in true≢false (sym (eq-eqb _ _ e) ∙ not-true _ v.1)
       where
         same-cell : (w : ℕ) → d / w ≡ c / w → d % w ≡ c % w → d ≡ c
@@ -146,14 +135,14 @@ lit-kind {p} {c} board lt on = met-from
     distinct : AreDistinct (row_run p c ++ filter (λ d. not (eqb d c)) (column_run p c))
     distinct =
         distinct-append _ _
-        (row-run-distinct p c) (distinct-filter _ _ (column-run-distinct c board)) apart
+        (line-run-distinct Rows c board) (distinct-filter _ _ (line-run-distinct Columns c board)) apart
 
     some-bulb : {g : List ℕ} → IsGrid (light_cells p) 2 g → solves_lights p g ≡ true
         → (d : ℕ) × (has_place (row_run p c ++ filter (λ d. not (eqb d c)) (column_run p c)) d ≡ true) × (bulb g d ≡ true)
     some-bulb {g} grid good = elim (or_cases _ _ (all_below-at _ _ c (lit-parts p g good).lit lt)) [
       | inl black ↦ absurd (true≢false (sym on ∙ not-true _ black))
       | inr lit ↦ elim (or_cases _ _ lit) [
-        | inl own ↦ (c, place-front _ _ c (in-row-run p c c board.some (row-self p c on)), own)
+        | inl own ↦ (c, place-front _ _ c (in-row-run p c c board.some (line-self p Rows c on)), own)
         | inr seen ↦
             let w = any_below-some _ _ seen in let both = and_parts _ _ w.2 in
             let parts = and_parts _ _ both.0 in (
@@ -173,8 +162,8 @@ each-met : (p : Light) → IsLightBoard p → AllByRecursion (IsMet (light_cells
 unfolding light_houses
 each-met p board =
     all-append _ _ _ (all-houses _ (number_house p) _ (λ c lt. number-kind board lt))
-    (all-append _ _ _ (all-houses _ (row_house p) _ (λ c _. all-if _ (λ _. row-kind p c board)))
-    (all-append _ _ _ (all-houses _ (column_house p) _ (λ c _. all-if _ (λ _. column-kind p c board)))
+    (all-append _ _ _ (all-houses _ (row_house p) _ (λ c _. all-if _ (λ _. line-kind p Rows c board)))
+    (all-append _ _ _ (all-houses _ (column_house p) _ (λ c _. all-if _ (λ _. line-kind p Columns c board)))
     (all-houses _ (lit_house p) _ (λ c lt. all-if _ (lit-kind board lt)))))
 
 -- ---- a puzzle's board
@@ -209,41 +198,22 @@ light-lawful is = count-lawful _ _ _ _ (light-counting is)
 div-under : {a b w : ℕ} → 0 < w → a ≤ b → a / w ≤ b / w
 div-under {a} {b} {w} pos le = le-div (a / w) b w pos (omega (arith, div-mul-le_self a w))
 
-row-joined : (p : Light) (a b : ℕ) → joined_in_row p a b ≡ true → AreJoined p (light_row p) a b
-row-joined p a b on =
-    let w = row-parts p a b on in
-    record {
-      same_line = w.0;
-      all_white = λ c same between.
-          let here : a / p.size.w * p.size.w + a % p.size.w ≡ a = omega arith in
-          let there : a / p.size.w * p.size.w + b % p.size.w ≡ b = rw w.0 (omega arith) in
-          let at : a / p.size.w * p.size.w + c % p.size.w ≡ c = rw (sym same) (omega arith) in
-          let inside = columns-between _ a b c _ _ _ here there at between in
-          rw at at (clear-at (λ x. white p (a / p.size.w * p.size.w + x)) _ _ _ w.1 inside.0 inside.1);
-    }
-  where
-    columns-between : (first a b c i j k : ℕ) → first + i ≡ a → first + j ≡ b → first + k ≡ c → IsFromTo a b c → (min i j ≤ k) × (k ≤ max i j)
-    columns-between first a b c i j k ea eb ec (inl up) = let l = up.0 in let h = up.1 in (omega arith, omega arith)
-    columns-between first a b c i j k ea eb ec (inr down) = let l = down.0 in let h = down.1 in (omega arith, omega arith)
+places-between : (p : Light) (kind : RunKind) (a b c : ℕ) → 0 < p.size.w → own_line p kind a ≡ own_line p kind b → own_line p kind c ≡ own_line p kind a
+    → IsFromTo a b c → (min (own_number p kind a) (own_number p kind b) ≤ own_number p kind c) × (own_number p kind c ≤ max (own_number p kind a) (own_number p kind b))
+places-between = grind (arith, common_steps, div-under)
+
+line-seen : (p : Light) (kind : RunKind) (a b : ℕ) → 0 < p.size.w → joined_on p kind a b ≡ true → AreJoined p (own_line p kind) a b
+line-seen p kind a b pos on = record {
+  same_line = (line-parts p kind a b on).0;
+  all_white = λ c same between.
+      let inside = places-between p kind a b c pos (line-parts p kind a b on).0 same between in
+      let here : cell_on p kind (own_line p kind a) (own_number p kind c) ≡ c = rw (sym same) (own-cell p kind c) in
+      rw here at (line-white p kind a b on (own_number p kind c) inside.0 inside.1);
+}
 
 joined-row : (p : Light) (a b : ℕ) → 0 < p.size.w → AreJoined p (light_row p) a b → joined_in_row p a b ≡ true
 unfolding joined_in_row
 joined-row p a b pos is = grind (arith, common_steps, and_from, eq-eqb, clear-from, mod-lt, div-mul-add, cases_lt)
-
-column-joined : (p : Light) (a b : ℕ) → 0 < p.size.w → joined_in_column p a b ≡ true → AreJoined p (light_column p) a b
-column-joined p a b pos on =
-    let w = column-parts p a b on in
-    record {
-      same_line = w.0;
-      all_white = λ c same between.
-          let at : c / p.size.w * p.size.w + a % p.size.w ≡ c = rw (sym same) (omega arith) in
-          let inside = rows-between a b c p.size.w pos between in
-          rw at at (clear-at (λ y. white p (y * p.size.w + a % p.size.w)) (a / p.size.w) (b / p.size.w) (c / p.size.w) w.1 inside.0 inside.1);
-    }
-  where
-    rows-between : (a b c w : ℕ) → 0 < w → IsFromTo a b c → (min (a / w) (b / w) ≤ c / w) × (c / w ≤ max (a / w) (b / w))
-    rows-between a b c w pos (inl up) = let l = div-under pos up.0 in let h = div-under pos up.1 in (omega arith, omega arith)
-    rows-between a b c w pos (inr down) = let l = div-under pos down.0 in let h = div-under pos down.1 in (omega arith, omega arith)
 
 joined-column : (p : Light) (a b : ℕ) → 0 < p.size.w → AreJoined p (light_column p) a b → joined_in_column p a b ≡ true
 unfolding joined_in_column
@@ -256,7 +226,9 @@ joined-column p a b pos is = and_from _ _ (eq-eqb _ _ is.same_line)
 
 sees-rule : (p : Light) (a b : ℕ) → 0 < p.size.w → sees p a b ≡ true → Sees p a b
 unfolding sees
-sees-rule p a b pos on = grind (arith, common_steps, and_parts, eq-eqb, not-true, or_cases, row-joined, column-joined)
+sees-rule p a b pos on =
+    let v = and_parts _ _ on in
+    (λ e. true≢false (sym (eq-eqb a b e) ∙ not-true _ v.0), elim (or_cases _ _ v.1) [ inl row ↦ inl (line-seen p Rows a b pos row) | inr column ↦ inr (line-seen p Columns a b pos column) ])
 
 rule-sees : {p : Light} {a b : ℕ} → 0 < p.size.w → Sees p a b → sees p a b ≡ true
 unfolding sees

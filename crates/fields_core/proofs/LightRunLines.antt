@@ -37,22 +37,12 @@ module _ (run : ℕ → ℕ) (room marked rest bits at later more : ℕ) (done :
   }
     where
       later-off : (j : ℕ) → has_bit later j ≡ false → (j ≡ at) ⊎ (has_bit rest j ≡ false)
-      later-off j off = by (cases_eq j at) (sym (later_is j) ∙ off)
-        where
-          by : (j ≡ at) ⊎ (j ≢ at) → (has_bit rest j && not (eqb j at)) ≡ false → (j ≡ at) ⊎ (has_bit rest j ≡ false)
-          by (inl same) e = inl same
-          by (inr other) e = inr (sym (and-true (has_bit rest j)) ∙ (rw (ne_eqb j at other) at e))
+      later-off j off = grind (arith, common_steps, cases_eq, eqb, and-true, ne_eqb)
 
       lower : (j k : ℕ) → has_bit marked j ≡ true → (j ≡ at) ⊎ (has_bit rest j ≡ false)
           → (has_bit rest k ≡ true) × (not (eqb k at) ≡ true) → j < k
       lower j k on (inr off) there = done.lower j k on off there.0
-      lower j k on (inl same) there = elim (cases_lt k at) [
-        | inl less ↦ absurd (true≢false (sym there.0 ∙ least.before k less))
-        | inr from ↦ elim (cases_eq k at) [
-          | inl here ↦ absurd (true≢false (sym (eq-eqb k at here) ∙ not-true (eqb k at) there.1))
-          | inr other ↦ omega arith
-        ]
-      ]
+      lower j k on (inl same) there = grind (arith, common_steps, cases_lt, true≢false, cases_eq, eq-eqb, not-true, eqb)
 
       apart : (j k : ℕ) → j < k → has_bit marked j ≡ true → (j ≡ at) ⊎ (has_bit rest j ≡ false) → has_bit marked k ≡ true
           → has_bit (run j) k ≡ false
@@ -156,6 +146,7 @@ module _ (size : Extent) (line : Line) (n room : ℕ) (cell : ℕ → ℕ) (join
   -- ---- two in one run
   pub runs-clash : IsClash run must → AreVisited houses from from false
   runs-clash clash =
+      let inside : (j k : ℕ) → j < n → k < n → joined j k ≡ true → cell j < cells = λ j k lj lk on. grind (arith, common_steps, some-of, and_parts) in
       let one = must-at clash.one clash.one_marked in let other = must-at clash.other clash.other_marked in
       let both = and_parts _ _ (sym (run_is clash.one clash.other one.0) ∙ clash.same) in let after = clash.after in
       visited-dies (cell clash.one) (rw same_size (inside clash.one clash.other one.0 other.0 both.1))
@@ -163,9 +154,6 @@ module _ (size : Extent) (line : Line) (n room : ℕ) (cell : ℕ → ℕ) (join
       (each-more (IsRunOf cells n cell joined) (λ house. IsHouse cells house × (house.most ≡ 1)) houses (λ house is. (is.is, is.most_is)) are.each)
       (λ e. let same = are.own clash.one clash.other one.0 other.0 e in absurd (omega arith))
       (are.some clash.one clash.other one.0 other.0 both.1) one.1 other.1 low) alive
-    where
-      inside : (j k : ℕ) → j < n → k < n → joined j k ≡ true → cell j < cells
-      inside j k lj lk on = grind (arith, common_steps, some-of, and_parts)
 
   -- ---- no two: what is around is taken
   pub runs-met : {around : ℕ} (taken : ℕ) {to : Layers} → AreAround run room must around
@@ -174,11 +162,9 @@ module _ (size : Extent) (line : Line) (n room : ℕ) (cell : ℕ → ℕ) (join
       → AreVisited houses from to true
   unfolding without_taking covers without_met is_met
   runs-met {around} taken {to} is taken_is left further =
+      let full : IsBinaryAlive cells (planes_have from) = record { low = value-in from; some = λ c lt. alive c (rw same_size lt) } in
       visited-left (met ∙ sym (visits-met houses (planes_have from) full each)) (λ c lt. living c (alive c (rw (further.same_size) at lt))) further
     where
-      full : IsBinaryAlive cells (planes_have from)
-      full = record { low = value-in from; some = λ c lt. alive c (rw same_size lt) }
-
       -- two that must be ones are in no house
       apart : (j k : ℕ) → j < n → k < n → zeros (cell j) ≡ false → zeros (cell k) ≡ false → joined j k ≡ true → j < k → ⊥
       apart j k lj lk off_j off_k on less =
@@ -191,12 +177,7 @@ module _ (size : Extent) (line : Line) (n room : ℕ) (cell : ℕ → ℕ) (join
           let off_c = not-true _ on_c in let off_d = not-true _ on_d in
           elim (cases_lt w.0 w.1) [
             | inl less ↦ absurd (apart w.0 w.1 w.2 w.3 (ap zeros w.4 ∙ off_c) (ap zeros w.5 ∙ off_d) w.6 less)
-            | inr more ↦ elim (cases_eq w.0 w.1) [
-              | inl same ↦ sym w.4 ∙ ap cell same ∙ w.5
-              | inr other ↦
-                  let j = are.own v.0 w.1 v.2 w.3 (v.4 ∙ sym w.5) in let k = are.own v.1 w.0 v.3 w.2 (v.5 ∙ sym w.4) in
-                  absurd (apart v.0 v.1 v.2 v.3 (ap zeros v.4 ∙ off_d) (ap zeros v.5 ∙ off_c) v.6 (omega arith))
-            ]
+            | inr more ↦ grind (arith, common_steps, cases_eq, apart)
           ]
 
       each : AllByRecursion (IsOneAtMost cells zeros) houses
@@ -210,17 +191,7 @@ module _ (size : Extent) (line : Line) (n room : ℕ) (cell : ℕ → ℕ) (join
       -- what is taken from is met by a house
       to-house : (c : ℕ) → crosses line taken (c / size.w) (c % size.w) ≡ true
           → (zeros c ≡ true) × (list_any (λ house. is_met zeros house c) houses ≡ true)
-      to-house c on =
-          let at = are.at_cell taken c on in let parts = and_parts _ _ (sym (taken_is at.0) ∙ at.2) in
-          let j = any_below-some (λ j. has_bit must j && has_bit (run j) at.0) room (sym (is.is at.0) ∙ parts.0) in
-          let both = and_parts _ _ j.2 in let own = must-at j.0 both.0 in
-          let there = and_parts _ _ (sym (run_is j.0 at.0 own.0) ∙ both.1) in
-          let lt = ltb-true at.0 n there.0 in (
-            ap zeros (sym at.1) ∙ sym (are.values from 0 at.0 same_size (omega arith) lt) ∙ parts.1,
-            any-more (λ house. has_place house.places (cell j.0) && has_place house.places (cell at.0)) (λ house. is_met zeros house c) houses
-                (λ house on. let w = and_parts _ _ on in and_from _ _ (rw at.1 at w.1) (any-here (λ d. not (zeros d)) house.places (cell j.0) w.0 (ap not own.1)))
-                (are.some j.0 at.0 own.0 lt there.1),
-          )
+      to-house c on = grind (arith, common_steps, and_parts, any_below-some, must-at, ltb-true, any-more, and_from, any-here)
 
       from-house : (c : ℕ) → zeros c ≡ true → list_any (λ house. is_met zeros house c) houses ≡ true
           → crosses line taken (c / size.w) (c % size.w) ≡ true

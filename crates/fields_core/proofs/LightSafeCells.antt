@@ -1,8 +1,9 @@
 -- Light Up: words of the cells that a cell sees, and runs that are safe.
 use Rattle.fields_core.proofs.Common.{AreSafe, Bool, Candidates, IsColumnRun, IsLeast, IsRowRun, Layers, Light, List, and-false, and_parts, any_below, any_below-none, any_below-some, ap, arith, bit_of, cases_Bool, common_steps, cond, count_below, count_below-few, count_below-lt, count_below-pos, div-mul-add, eq-eqb, eqb, eqb-true, false, get_or, planes_have, has_bit, inl, inr, joined_in_column, joined_in_row, le-ltb, least_below, least_below-passes, length, length-map, light_cells, line_board, lt-ltb, ltb, ltb-true, map, mod-mul-add, not, not-false, place-in, refl, slice_index, suc, sym, true, true≢false, white, zero, ℕ, ◌%◌, ◌&&◌, ◌*◌, ◌+◌, ◌<◌, ◌∙◌, ◌≡◌, ◌≤◌}
 use Rattle.fields_core.proofs.PlaceLists.{num}
-use Rattle.fields_core.proofs.LightHouseLaws.{column-both, column-next, mul-inj, row-both}
+use Rattle.fields_core.proofs.LightHouseLaws.{column-next, line-both, mul-inj}
 use Rattle.fields_core.proofs.CellLemmas.{has-at, row-read, second-off}
+use Rattle.fields_core.specs.declared.planes.light_up.waits.RunKind.TheVariants.{Columns, Rows}
 
 -- Words of the cells that a cell of Light Up sees.
 
@@ -46,9 +47,7 @@ two-places passes (suc n) many = elim (cases_Bool (passes n)) [
       let more : 1 < count_below passes n + cond (passes n) 1 0 = many in
       let w = least_below-passes passes n (omega (arith, ap num on)) in
       (least_below passes n, n, w.0, omega arith, w.1, on)
-  | inr off ↦
-      let more : 1 < count_below passes n + cond (passes n) 1 0 = many in
-      let w = two-places passes n (omega (arith, ap num off)) in (w.0, w.1, w.2, omega (arith, w.3), w.4, w.5)
+  | inr off ↦ grind (arith, common_steps, two-places passes n (omega (arith, ap num off)))
 ]
 
 -- Runs of Light Up with two cells that can have a bulb, or with one that must, as words.
@@ -65,16 +64,7 @@ safe-line : {cells : ℕ → Bool} {K : Candidates} (run empties bulbs : ℕ) (c
     → ((k : ℕ) → has_bit run k ≡ true → (cells (cell k) ≡ true) × (K (cell k) 0 ≡ has_bit empties k) × (K (cell k) 1 ≡ has_bit bulbs k))
     → AreSafe (has_bit run) (line_board empties bulbs) → AreSafe cells K
 safe-line run empties bulbs cell own is safe =
-    let one = is safe.one safe.one_in in let other = is safe.other safe.other_in in
-    record {
-      one = cell safe.one;
-      other = cell safe.other;
-      one_in = one.0;
-      other_in = other.0;
-      one_on = one.2 ∙ safe.one_on;
-      other_on = other.2 ∙ safe.other_on;
-      apart = elim safe.apart [ inl ne ↦ inl (λ e. ne (own _ _ e)) | inr off ↦ inr (one.1 ∙ off) ];
-    }
+    grind (arith, common_steps, safe.one, safe.one_in, safe.other, safe.other_in, safe.one_on, safe.other_on, safe.apart)
 
 -- ---- the runs of a cell as words
 module _ (p : Light) (y x : ℕ) (x_in : x < p.size.w) where
@@ -108,12 +98,12 @@ safe-moved move safe = grind (arith, common_steps)
 -- of another cell of the run
 pub row-moved : (p : Light) (y : ℕ) {x : ℕ} (k : ℕ) (x_in : x < p.size.w) (run : ℕ) → IsRowRun p (y * p.size.w + x) run → has_bit run k ≡ true → {K : Candidates}
     → AreSafe (joined_in_row p (y * p.size.w + x)) K → AreSafe (joined_in_row p (y * p.size.w + k)) K
-row-moved p y {x} k x_in run is on safe = safe-moved (λ d joined. row-both p (y * p.size.w + x) (y * p.size.w + k) d (row-there p y x x_in run is k on).1 joined) safe
+row-moved p y {x} k x_in run is on safe = safe-moved (λ d joined. line-both p Rows (y * p.size.w + x) (y * p.size.w + k) d (row-there p y x x_in run is k on).1 joined) safe
 
 -- ---- cells one above the other
 module _ (p : Light) (c : ℕ) (some : 0 < p.size.w) (above : white p c ≡ true) (below : white p (c + p.size.w) ≡ true) where
   pub joined-down : (d : ℕ) → joined_in_column p c d ≡ true → joined_in_column p (c + p.size.w) d ≡ true
-  joined-down d on = column-both p c (c + p.size.w) d (column-next p c (c + p.size.w) some refl above below) on
+  joined-down d on = line-both p Columns c (c + p.size.w) d (column-next p c (c + p.size.w) some refl above below) on
 
 -- ---- the word of a cell in a table of all cells
 pub table-read : {W : Type 0} (bits : W → ℕ) (p : Light) (Is : ℕ → ℕ → Type 0) (words : List W) {y x : ℕ} (place : ℕ) {word : W}

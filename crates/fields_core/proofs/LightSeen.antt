@@ -1,8 +1,9 @@
 -- Light Up: the bulbs that a cell sees, and the next number that passes a test.
 use Rattle.fields_core.proofs.Common.{Bool, IsAround, IsNext, IsTentAmong, Light, List, None, Option, RunsBack, RunsOn, SeesAlong, ShinesAlong, Some, and_from, and_parts, any_below-here, any_below-some, ap, arith, bulb, cases_eq, cases_lt, clear, common_steps, eq-eqb, eqb, eqb-false, false, false_from_ne_true, false≢true, inl, inr, is_some, joined_in_column, joined_in_row, light_cells, mod-lt, mul-add-lt, ne_eqb, not, not-false, not-true, or_cases, or_left, or_right, sees, sees_bulb, slice_index, sym, tent, true, true≢false, white, ℕ, ◌%◌, ◌&&◌, ◌*◌, ◌+◌, ◌-◌, ◌/◌, ◌<◌, ◌==◌, ◌||◌, ◌∙◌, ◌≡◌, ◌≢◌, ◌≤◌}
-use Rattle.fields_core.proofs.LightHouseLaws.{clear-at, clear-from, column-parts, mul-inj, row-parts}
+use Rattle.fields_core.proofs.LightHouseLaws.{clear-from, line-parts, line-start, mul-inj}
 use Rattle.fields_core.proofs.RunLemmas.{around-joined, clear-same, column-cell-joined, row-cell-joined}
 use Rattle.fields_core.proofs.BesideLemmas.{row-in}
+use Rattle.fields_core.specs.declared.planes.light_up.waits.RunKind.TheVariants.{Columns, Rows}
 use Rattle.std.specs.Option.{unwrap_or}
 
 -- A cell sees a bulb exactly if a walk from it along its row or its column comes to one before a black cell.
@@ -35,7 +36,7 @@ row-sees p g {c} b some in_grid = line-sees p g (c / p.size.w * p.size.w) 1 (joi
     (λ k lt. rw (same k) (omega (arith, mul-add-lt (c / p.size.w) p.size.w k p.size.h (row-in {w = p.size.w} p.size.h c some in_grid) lt)))
     (λ k ne e. ne (omega (arith, whole c p.size.w, e)))
     (λ k lt. clear-same _ _ _ k (λ i. ap (white p) (same i)) ∙ sym (row-cell-joined p c lt) ∙ ap (joined_in_row p c) (sym (same k)))
-    (λ d _ on. (d % p.size.w, mod-lt d some, same (d % p.size.w) ∙ rw (row-parts p c d on).0 (sym (whole d p.size.w))))
+    (λ d _ on. (d % p.size.w, mod-lt d some, same (d % p.size.w) ∙ rw (line-parts p Rows c d on).0 (sym (whole d p.size.w))))
     (same (c % p.size.w) ∙ sym (whole c p.size.w)) b
   where
     same : (i : ℕ) → c / p.size.w * p.size.w + i * 1 ≡ c / p.size.w * p.size.w + i
@@ -48,7 +49,7 @@ column-sees p g c b some = line-sees p g (c % p.size.w) p.size.w (joined_in_colu
     (λ k lt. rw (same k) (omega (arith, mul-add-lt k p.size.w (c % p.size.w) p.size.h lt (mod-lt c some))))
     (λ k ne e. ne (mul-inj some (omega (arith, whole c p.size.w, e))))
     (λ k _. clear-same _ _ _ k (λ i. ap (white p) (same i)) ∙ sym (column-cell-joined p c k some) ∙ ap (joined_in_column p c) (sym (same k)))
-    (λ d lt on. (d / p.size.w, row-in p.size.h d some lt, same (d / p.size.w) ∙ rw (column-parts p c d on).0 (sym (whole d p.size.w))))
+    (λ d lt on. (d / p.size.w, row-in p.size.h d some lt, same (d / p.size.w) ∙ rw (line-parts p Columns c d on).0 (sym (whole d p.size.w))))
     (same (c / p.size.w) ∙ sym (whole c p.size.w)) b
   where
     same : (i : ℕ) → c % p.size.w + i * p.size.w ≡ i * p.size.w + c % p.size.w
@@ -78,21 +79,15 @@ unseen p g c none = grind (arith, common_steps, false_from_ne_true, any_below-so
 pub seen-in-column : (p : Light) (g : List ℕ) (c : ℕ) (b : Bool) → SeesAlong (joined_in_row p) (light_cells p) g c false
     → SeesAlong (joined_in_column p) (light_cells p) g c b → b ≡ sees_bulb p g c
 seen-in-column p g c true row s = sym (seen-there p g s.1 s.2 (or_right _ _ s.3) s.4)
-seen-in-column p g c false row s = sym (unseen p g c (λ d lt ne joined. elim (or_cases _ _ joined) [
-  | inl a ↦ row d lt ne a
-  | inr a ↦ s d lt ne a
-]))
+seen-in-column p g c false row s = grind (arith, common_steps, unseen, or_cases)
 
 -- a black cell sees none
 pub black-unseen : (p : Light) (g : List ℕ) (c : ℕ) → white p c ≡ false → sees_bulb p g c ≡ false
 black-unseen p g c off = unseen p g c (λ d lt ne joined. elim (or_cases _ _ joined) [
   | inl row ↦
-      let v = row-parts p c d row in
-      let on = clear-at (λ x. white p (c / p.size.w * p.size.w + x)) _ _ _ v.1 (omega arith) (omega arith) in
-      absurd (true≢false (sym on ∙ ap (white p) (sym (whole c p.size.w)) ∙ off))
+      absurd (true≢false (sym (line-start p Rows c d row) ∙ off))
   | inr column ↦
-      let v = column-parts p c d column in let on = clear-at (λ y. white p _) _ _ _ v.1 (omega arith) (omega arith) in
-      absurd (true≢false (sym on ∙ ap (white p) (sym (whole c p.size.w)) ∙ off))
+      absurd (true≢false (sym (line-start p Columns c d column) ∙ off))
 ])
 
 -- What the next number that passes a test tells of a line.

@@ -7,7 +7,7 @@ use Rattle.fields_core.proofs.IdleLemmas.{IsPartOf, any-below, any-none, any-one
 use Rattle.fields_core.proofs.VisitLemmas.{IsBinaryAlive, below-rows}
 use Rattle.fields_core.proofs.AtLeastLemmas.{IsAll, alls-kept, alls-ones, safe-stay}
 use Rattle.fields_core.proofs.LightRuleLemmas.{in-column-run, in-row-run, light-board}
-use Rattle.fields_core.proofs.LightHouseLaws.{column-white-end, row-self, white-in}
+use Rattle.fields_core.proofs.LightHouseLaws.{line-end, line-self, white-in}
 use Rattle.fields_core.proofs.LightLitVisits.{lit-is}
 use Rattle.fields_core.proofs.LightReach.{numbers-are}
 use Rattle.fields_core.proofs.LightRunOrder.{column-runs-of, line-kept, line-single, row-runs-are, row-runs-of}
@@ -34,7 +34,7 @@ module _ (p : Light) (lawful : IsLight p) (c : ℕ) (is_white : white p c ≡ tr
 
   pub seen-in-column : (d : ℕ) → joined_in_column p c d ≡ true → has_place (seen_from p c) d ≡ true
   unfolding seen_from
-  seen-in-column d joined = grind (arith, common_steps, cases_eq, place-front, in-row-run, row-self, white-in, light-board, column-white-end, place-back, place-kept, in-column-run, ne_eqb)
+  seen-in-column d joined = grind (arith, common_steps, cases_eq, place-front, in-row-run, line-self p Rows, white-in, light-board, line-end p Columns, place-back, place-kept, in-column-run, ne_eqb)
 
 -- ---- a run with two cells that can have a bulb, or one that must, leaves the houses of its cells idle
 run-safe : {p : Light} (c : ℕ) {K : Candidates} {joined : ℕ → Bool} → IsLight p → IsBinaryAlive (light_cells p) K
@@ -156,7 +156,7 @@ lines-all bits p waits K lawful narrow low numbers number_columns rows columns o
   runs = by;
   columns = λ y y_in x lt off. absurd (true≢false (sym (number_columns x (omega (arith, lt, narrow))) ∙ off));
   whites = λ c lt away. elim (cases_Bool (white p c)) [
-    | inl on ↦ absurd (away c (seen-in-row p lawful c on c (row-self p c on)) (ones _ _ (omega (arith, row-in p.size.h c (light-board lawful).some lt, low)) (omega (arith, mod-lt c (light-board lawful).some, narrow))))
+    | inl on ↦ absurd (away c (seen-in-row p lawful c on c (line-self p Rows c on)) (ones _ _ (omega (arith, row-in p.size.h c (light-board lawful).some lt, low)) (omega (arith, mod-lt c (light-board lawful).some, narrow))))
     | inr off ↦ black-idle p c K off
   ];
 }

@@ -53,19 +53,11 @@ lights_below p n =
 
 lights-long : (p : Light) (n : ℕ) → length (lights_below p n) ≡ length (houses_below (number_house p) n) + (length (houses_below (row_house p) n)
     + (length (houses_below (column_house p) n) + length (houses_below (lit_house p) n)))
-lights-long p n = omega (
-  arith,
-  length-append (houses_below (number_house p) n) (houses_below (row_house p) n ++ (houses_below (column_house p) n ++ houses_below (lit_house p) n)),
-  length-append (houses_below (row_house p) n) (houses_below (column_house p) n ++ houses_below (lit_house p) n),
-  length-append (houses_below (column_house p) n) (houses_below (lit_house p) n),
-)
+lights-long p n = grind (arith, common_steps, length-append)
 
 lights-longest : (p : Light) (n : ℕ) → longest_of (lights_below p n) ≡ max (longest_of (houses_below (number_house p) n)) (max (longest_of (houses_below (row_house p) n))
     (max (longest_of (houses_below (column_house p) n)) (longest_of (houses_below (lit_house p) n))))
-lights-longest p n =
-    longest-append (houses_below (number_house p) n) (houses_below (row_house p) n ++ (houses_below (column_house p) n ++ houses_below (lit_house p) n))
-    ∙ ap (max (longest_of (houses_below (number_house p) n))) (longest-append (houses_below (row_house p) n) (houses_below (column_house p) n ++ houses_below (lit_house p) n)
-    ∙ ap (max (longest_of (houses_below (row_house p) n))) (longest-append (houses_below (column_house p) n) (houses_below (lit_house p) n)))
+lights-longest p n = grind (arith, common_steps, longest-append)
 
 -- ---- the longest of eight numbers, in two orders
 crossed : (a b c d : ℕ) → max (max a b) (max c d) ≡ max (max a c) (max b d)
@@ -93,33 +85,7 @@ counted-none p none content = record { are = none; unmet = content; few = omega 
 pub counted-more : {p : Light} {n : ℕ} {m a b c d : Measured} → AreCounted p n m → AddsHouses (number_house p n) m a → AddsHouses (row_house p n) a b
     → AddsHouses (column_house p n) b c → AddsHouses (lit_house p n) c d → d.unmet ≡ (m.unmet || lonely p n) → d.houses ≤ m.houses + 4 → AreCounted p (n + 1) d
 unfolding any_below
-counted-more {p} {n} i first second third last unmet few = record {
-  are = record {
-    houses_are = omega (
-      arith,
-      i.are.houses_are,
-      first.houses_are,
-      second.houses_are,
-      third.houses_are,
-      last.houses_are,
-      lights-long p n,
-      lights-long p (n + 1),
-      long-more (number_house p) n,
-      long-more (row_house p) n,
-      long-more (column_house p) n,
-      long-more (lit_house p) n,
-    );
-    longest_is = widened (widest number_house) (widest row_house) (widest column_house) (widest lit_house)
-        (longest_of (number_house p n)) (longest_of (row_house p n)) (longest_of (column_house p n)) (longest_of (lit_house p n)) (i.are.longest_is ∙ lights-longest p n)
-        first.longest_is second.longest_is third.longest_is last.longest_is
-        ∙ sym (lights-longest p (n + 1) ∙ rw (longest-next (number_house p) n, longest-next (row_house p) n, longest-next (column_house p) n, longest-next (lit_house p) n) refl);
-  };
-  unmet = unmet ∙ ap (λ b. b || lonely p n) i.unmet ∙ ap (any_below (lonely p)) (sym (add-one n));
-  few = omega (arith, i.few, few);
-}
-  where
-    widest : (Light → ℕ → List CountHouse) → ℕ
-    widest house = longest_of (houses_below (house p) n)
+counted-more {p} {n} i first second third last unmet few = grind (arith, common_steps, lights-long, long-more, widened, lights-longest, longest-next, add-one)
 
 pub counted-all : {p : Light} {n : ℕ} {m : Measured} → AreCounted p n m → n ≡ light_cells p → IsMeasured (light_houses p) m
 unfolding light_houses
@@ -174,14 +140,7 @@ row-squares p y (suc x) le low =
     let e : y * p.size.w + suc x ≡ y * p.size.w + x + 1 = omega arith in
     rw e (elim (cases_lt (x + 1) p.size.w) [
       | inl there ↦ omega (arith, there, long-more (square_house p) (y * p.size.w + x), row-squares p y x (omega arith) low, ap length (square-there p y x there low))
-      | inr last ↦ omega (
-        arith,
-        last,
-        le,
-        long-more (square_house p) (y * p.size.w + x),
-        row-squares p y x (omega arith) low,
-        ap length (square-none p y x (omega arith) (λ less. absurd (omega (arith, less, last)))),
-      )
+      | inr last ↦ grind (arith, common_steps, long-more, square-none, row-squares p y x (omega arith) low)
     ])
 
 last-squares : (p : Tents) (y x : ℕ) → x ≤ p.size.w → p.size.h ≤ y + 1 → squares p (y * p.size.w + x) ≡ squares p (y * p.size.w)
@@ -261,7 +220,4 @@ module _ {p : Tents} (is : IsTents p) where
 
   pub tents-measured : {m : Measured} → m.houses ≡ p.size.w + p.size.h + (p.size.w - 1) * (p.size.h - 1) + count_below (tree p) (tent_cells p)
       → m.longest ≡ max (max p.size.w p.size.h) 4 → IsMeasured (tent_houses p) m
-  tents-measured many long = record {
-    houses_are = many ∙ sym tents-long;
-    longest_is = omega (arith, long, tents-most, tents-least);
-  }
+  tents-measured many long = grind (arith, common_steps, tents-long, tents-most, tents-least)

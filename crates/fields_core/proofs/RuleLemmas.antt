@@ -1,5 +1,5 @@
 -- Where a search of count houses starts, and the first test that fails.
-use Rattle.fields_core.proofs.Common.{AllByRecursion, AreRight, Bool, Candidates, IsFirstFailed, IsKindMade, IsNext, TestKind, Layout, List, None, Option, Row, SameShape, Some, all_of, and-true, ap, arith, cases_Bool, cases_eq, cases_lt, common_steps, covers, crosses, div-add-mod', div-lt_iff_lt-mul, eq-eqb, eqb, first_in, fun_ext, has_bit, le-ltb, lt-ltb, ltb, mod-lt, ne_eqb, not, not-false, not-true, or-false, or-true, start_of, tests, true, without, without_taking, ℕ, ◌%◌, ◌&&◌, ◌*◌, ◌++◌, ◌+◌, ◌/◌, ◌<◌, ◌||◌, ◌∙◌, ◌∷◌, ◌≡◌, ◌≤◌}
+use Rattle.fields_core.proofs.Common.{AllByRecursion, AreRight, Bool, Candidates, IsFirstFailed, IsKindMade, IsNext, Layout, List, None, Option, Row, SameShape, Some, TestKind, [], all_of, and-true, arith, cases_eq, cases_lt, common_steps, covers, crosses, div-add-mod', div-lt_iff_lt-mul, eq-eqb, eqb, first_in, fun_ext, has_bit, le-ltb, lt-ltb, ltb, mod-lt, ne_eqb, not, not-false, not-true, or-false, or-true, start_of, tests, true, without, without_taking, ℕ, ◌&&◌, ◌*◌, ◌++◌, ◌+◌, ◌<◌, ◌∙◌, ◌∷◌, ◌≡◌, ◌≤◌}
 
 -- The board that a search of count houses starts from.
 
@@ -21,15 +21,7 @@ pub row-blocked : {cells : ℕ} {blocked : ℕ → Bool} {w w' : ℕ} (y bits : 
     → K' ≡ without_taking w' K (record { line = Row y; value = 1; bits = bits }) → ((x : ℕ) → has_bit bits x ≡ (ltb x w && blocked (y * w + x)))
     → IsStarted cells blocked ((y + 1) * w) K'
 unfolding without_taking covers crosses
-row-blocked {cells} {blocked} {w} y bits pos e before left is = record {
-  sets = λ c v. ap (λ (L : Candidates). L c v) (rw e at left) ∙ rw (before.sets c v) (by (all_of cells 2 c v) (eqb v 1) _ _ _ (here c));
-}
-  where
-    by : (all one old new row : Bool) → new ≡ (old || row) → ((all && not (old && one)) && not (one && row)) ≡ (all && not (new && one))
-    by all one old new row e = grind (arith, common_steps, cases_Bool)
-
-    here : (c : ℕ) → (ltb c ((y + 1) * w) && blocked c) ≡ ((ltb c (y * w) && blocked c) || (eqb (c / w) y && has_bit bits (c % w)))
-    here c = grind (arith, common_steps, div-lt_iff_lt-mul, cases_eq, div-add-mod', eq-eqb, lt-ltb, mod-lt, le-ltb, ne_eqb, cases_lt, cases_Bool)
+row-blocked {cells} {blocked} {w} y bits pos e before left is = grind (arith, common_steps, ltb, div-lt_iff_lt-mul, div-add-mod', mod-lt)
 
 pub start-all : {cells : ℕ} {blocked : ℕ → Bool} {n : ℕ} {K : Candidates} → IsStarted cells blocked n K → cells ≤ n → K ≡ start_of cells blocked
 unfolding start_of all_of
@@ -45,10 +37,11 @@ abbrev pub IsFirstWrong : {F : Type 0} → TestKind F → Option ℕ → Type 0
 IsFirstWrong k found = IsNext (λ n. not (k.right n)) k.count 0 found
 
 module _ {F : Type 0} (fails : F → Type 0) where
-  pub all-right : (k : TestKind F) → IsFirstWrong k None → AreRight fails k
-  all-right k none c lt = not-false _ (none c (omega arith) lt)
+  pub all-right : (kinds : List (TestKind F)) → AllByRecursion (λ k. IsFirstWrong k None) kinds → AllByRecursion (AreRight fails) kinds
+  all-right [] none = tt
+  all-right (k ∷ kinds) none = (λ c lt. not-false _ (none.0 c (omega arith) lt), all-right kinds none.1)
 
   pub first-wrong : (front : List (TestKind F)) (k : TestKind F) (rest : List (TestKind F)) → AllByRecursion (IsKindMade fails) (front ++ k ∷ rest)
-      → AllByRecursion (AreRight fails) front → {c : ℕ} → IsFirstWrong k (Some c) → IsFirstFailed fails (tests (front ++ k ∷ rest)) (k.test c)
-  first-wrong front k rest made right {c} next =
-      first_in fails front k rest made right c next.1 (not-true _ next.2) (λ d low. not-false _ (next.3 d (omega arith) low))
+      → AllByRecursion (λ k. IsFirstWrong k None) front → {c : ℕ} → IsFirstWrong k (Some c) → IsFirstFailed fails (tests (front ++ k ∷ rest)) (k.test c)
+  first-wrong front k rest made none {c} next =
+      first_in fails front k rest made (all-right front none) c next.1 (not-true _ next.2) (λ d low. not-false _ (next.3 d (omega arith) low))

@@ -104,13 +104,11 @@ pub row-run-is : (p : Light) (y : ℕ) {x : ℕ} → x < p.size.w
     → map (λ i. y * p.size.w + i * 1) (filter (clear (λ i. white p (y * p.size.w + i * 1)) x) (range_with_len 0 p.size.w)) ≡ row_run p (y * p.size.w + x)
 unfolding row_run
 row-run-is p y {x} lt =
+    let same : (i : ℕ) → y * p.size.w + i * 1 ≡ y * p.size.w + i = λ i. omega arith in
     rw (div-mul-add y p.size.w x lt)
     (line-run (joined_in_row p (y * p.size.w + x)) (λ i. white p (y * p.size.w + i)) (λ i. white p (y * p.size.w + i * 1)) x p.size.w
     (λ i. y * p.size.w + i) (λ i. y * p.size.w + i * 1) same (λ i. ap (white p) (same i)) joined)
   where
-    same : (i : ℕ) → y * p.size.w + i * 1 ≡ y * p.size.w + i
-    same i = omega arith
-
     joined : (i : ℕ) → i < p.size.w → joined_in_row p (y * p.size.w + x) (y * p.size.w + i) ≡ clear (λ i. white p (y * p.size.w + i)) x i
     joined i low = rw (div-mul-add y p.size.w x lt, place-column p.size.w y x lt) at (row-cell-joined p (y * p.size.w + x) low)
 
@@ -118,13 +116,11 @@ pub column-run-is : (p : Light) (y : ℕ) {x : ℕ} → x < p.size.w
     → map (λ i. x + i * p.size.w) (filter (clear (λ i. white p (x + i * p.size.w)) y) (range_with_len 0 p.size.h)) ≡ column_run p (y * p.size.w + x)
 unfolding column_run
 column-run-is p y {x} lt =
+    let same : (i : ℕ) → x + i * p.size.w ≡ i * p.size.w + x = λ i. omega arith in
     rw (place-column p.size.w y x lt)
     (line-run (joined_in_column p (y * p.size.w + x)) (λ i. white p (i * p.size.w + x)) (λ i. white p (x + i * p.size.w)) y p.size.h
     (λ i. i * p.size.w + x) (λ i. x + i * p.size.w) same (λ i. ap (white p) (same i)) (λ i _. joined i))
   where
-    same : (i : ℕ) → x + i * p.size.w ≡ i * p.size.w + x
-    same i = omega arith
-
     joined : (i : ℕ) → joined_in_column p (y * p.size.w + x) (i * p.size.w + x) ≡ clear (λ i. white p (i * p.size.w + x)) y i
     joined i = rw (div-mul-add y p.size.w x lt, place-column p.size.w y x lt) at (column-cell-joined p (y * p.size.w + x) i (omega arith))
 
@@ -147,13 +143,8 @@ shifted f a b (suc n) = let z : a + b + 1 ≡ a + (b + 1) = omega arith in rw z 
 
 pub line-from : (first stride at n : ℕ) → line (first + at * stride) stride n ≡ map (λ i. first + i * stride) (range_with_len at n)
 line-from first stride at n =
+    let on : (k : ℕ) → first + at * stride + k * stride ≡ first + (at + k) * stride = λ k. omega arith in let z : at + 0 ≡ at = omega arith in
     map-same _ _ (range_with_len 0 n) on ∙ sym (shifted (λ i. first + i * stride) at 0 n) ∙ ap (λ k. map (λ i. first + i * stride) (range_with_len k n)) z
-  where
-    on : (k : ℕ) → first + at * stride + k * stride ≡ first + (at + k) * stride
-    on k = omega arith
-
-    z : at + 0 ≡ at
-    z = omega arith
 
 kept-others : (f : ℕ → ℕ) (place a n : ℕ) → ((i : ℕ) → a ≤ i → i < a + n → f i ≡ place → ⊥)
     → filter (λ d. not (eqb d place)) (map f (range_with_len a n)) ≡ map f (range_with_len a n)
@@ -192,10 +183,7 @@ around-begun p first stride {len} {at} {end} begun on = record {
   low = omega arith;
   past = on.past;
   high = on.high;
-  pass = λ i from below. elim (cases_lt at i) [
-    | inl later ↦ on.pass i later below
-    | inr here ↦ let e : i ≡ at = omega arith in rw e (and_parts _ _ begun).0
-  ];
+  pass = grind (arith, common_steps, cases_lt, and_parts, on.pass);
   first = λ i e. edge i e (or_cases _ _ (and_parts _ _ begun).1);
   last = on.edge;
 }
@@ -265,9 +253,6 @@ pub column-here : (p : Light) (runs : List (ℕ × ℕ)) (y x : ℕ) → AreColu
 column-here p runs y x are lt = let e : ltb x x ≡ false = le-ltb x x (omega arith) in let z : y + 0 ≡ y = omega arith in rw (e, z) at (are x lt)
 
 -- ---- places are small
-pub small-place : {p : Light} {x y : ℕ} → IsLight p → x < p.size.w → y < p.size.h → y * p.size.w + x < 2 ^ 16
-small-place {p} {x} {y} is low high = grind (arith, common_steps, mul-le-mul_right)
-
 pub few-places : {p : Light} → IsLight p → light_cells p < 2 ^ 16
 few-places {p} is = grind (arith, common_steps, mul-le-mul_right)
 
@@ -326,17 +311,13 @@ run-none p first stride len at off = rw off refl
 
 pub row-house-is : (p : Light) (y : ℕ) {x : ℕ} → x < p.size.w → run_house p (y * p.size.w) 1 p.size.w x ≡ row_house p (y * p.size.w + x)
 unfolding begins_row_run
-row-house-is p y {x} lt = rw (row-run-is p y lt, place-column p.size.w y x lt, z) refl
-  where
-    z : y * p.size.w + x * 1 ≡ y * p.size.w + x
-    z = omega arith
+row-house-is p y {x} lt =
+    let z : y * p.size.w + x * 1 ≡ y * p.size.w + x = omega arith in rw (row-run-is p y lt, place-column p.size.w y x lt, z) refl
 
 pub column-house-is : (p : Light) (y : ℕ) {x : ℕ} → x < p.size.w → run_house p x p.size.w p.size.h y ≡ column_house p (y * p.size.w + x)
 unfolding begins_column_run
-column-house-is p y {x} lt = rw (column-run-is p y lt, div-mul-add y p.size.w x lt, z) refl
-  where
-    z : x + y * p.size.w ≡ y * p.size.w + x
-    z = omega arith
+column-house-is p y {x} lt =
+    let z : x + y * p.size.w ≡ y * p.size.w + x = omega arith in rw (column-run-is p y lt, div-mul-add y p.size.w x lt, z) refl
 
 -- a black cell begins none
 pub row-black : (p : Light) (c : ℕ) → white p c ≡ false → row_house p c ≡ []
@@ -346,10 +327,3 @@ row-black p c off = rw off refl
 pub column-black : (p : Light) (c : ℕ) → white p c ≡ false → column_house p c ≡ []
 unfolding begins_column_run
 column-black p c off = rw off refl
-
--- each is the house that its place tells
-pub row-told : (p : Light) (y x : ℕ) → x < p.size.w → row_house p (y * p.size.w + x * 1) ≡ run_house p (y * p.size.w) 1 p.size.w x
-row-told p y x lt = grind (arith, common_steps, row-house-is)
-
-pub column-told : (p : Light) (y x : ℕ) → x < p.size.w → column_house p (x + y * p.size.w) ≡ run_house p x p.size.w p.size.h y
-column-told p y x lt = grind (arith, common_steps, column-house-is)

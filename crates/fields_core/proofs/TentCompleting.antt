@@ -1,5 +1,6 @@
 -- A grid of Tents that meets each house with a cell is a solution exactly if its tents and trees can be paired.
-use Rattle.fields_core.proofs.Common.{AreMet, IsGrid, IsTents, List, Tents, all_below-from, and_parts, any_below-some, ap, arith, can_be_paired, cases_Bool, column_of_tents, column_places, column_right, count_by, eq-eqb, eqb, exactly, false_from_ne_true, houses_below, inl, inr, is_barred, leb-true, lt-ltb, map, meets_house, nonzeros, not, one_at_most, or_left, or_right, refl, row_of_tents, row_places, row_right, slice_index, solves_tents, square_house, sym, tent, tent_cells, tent_counts, tent_houses, touch_right, touches, tree, tree_house, tree_right, true, true≢false, ℕ, ◌%◌, ◌*◌, ◌+◌, ◌/◌, ◌<◌, ◌∙◌, ◌≡◌}
+use Rattle.std.proofs.lemmas.Grind.{common_steps}
+use Rattle.fields_core.proofs.Common.{AreMet, IsGrid, IsTents, List, Tents, all_below-from, and_parts, any_below-some, ap, arith, can_be_paired, cases_Bool, column_of_tents, column_places, column_right, count_by, eq-eqb, eqb, exactly, false_from_ne_true, houses_below, is_barred, leb-true, lt-ltb, map, meets_house, nonzeros, not, one_at_most, or_left, or_right, refl, row_of_tents, row_places, row_right, slice_index, solves_tents, square_house, tent, tent_cells, tent_counts, tent_houses, touch_right, touches, tree_house, tree_right, true, ℕ, ◌%◌, ◌*◌, ◌+◌, ◌/◌, ◌<◌, ◌≡◌}
 use Rattle.fields_core.proofs.HouseLemmas.{row-long, column-long}
 use Rattle.fields_core.proofs.LightHouseLaws.{small-at}
 use Rattle.fields_core.proofs.PlaceLists.{count-two, ones-bulbs}
@@ -12,18 +13,12 @@ use Rattle.fields_core.proofs.VisitLemmas.{among-back, among-below, among-front,
 module _ (p : Tents) (g : List ℕ) (is : IsTents p) (grid : IsGrid (tent_cells p) 2 g) (met : AreMet (tent_counts p) g) where
   trees-right : (c : ℕ) → c < tent_cells p → tree_right p g c ≡ true
   unfolding tree_right is_barred
-  trees-right c lt = elim (cases_Bool (tree p c)) [
-    | inl on ↦ or_right _ _ (eq-eqb _ _ (met.blocked_zero c lt (or_left _ _ on)))
-    | inr off ↦ or_left _ _ (ap not off)
-  ]
+  trees-right c lt = grind (arith, common_steps, cases_Bool, or_right, eq-eqb, or_left)
 
   -- ---- lines
   exact : (n : ℕ) (places : List ℕ) → meets_house (exactly n places) g ≡ true → eqb (count_by (tent g) places) n ≡ true
   unfolding meets_house
-  exact n places on =
-      let parts = and_parts _ _ on in let least = leb-true n (nonzeros (map (slice_index g) places)) parts.0 in
-      let most = leb-true (nonzeros (map (slice_index g) places)) n parts.1 in
-      eq-eqb _ n (omega (arith, least, most, ones-bulbs g places (small-at grid)))
+  exact n places on = grind (arith, common_steps, and_parts, leb-true, eq-eqb, ones-bulbs, small-at)
 
   columns-right : (x : ℕ) → x < p.size.w → column_right p g x ≡ true
   unfolding column_right tent_houses
@@ -69,8 +64,4 @@ module _ (p : Tents) (g : List ℕ) (is : IsTents p) (grid : IsGrid (tent_cells 
       let seen = and_parts _ _ w.2 in apart c w.0 lt w.1 on.0 seen.1 seen.0))
 
   pub completed : can_be_paired p g ≡ solves_tents p g
-  completed = elim (cases_Bool (can_be_paired p g)) [
-    | inl on ↦ on ∙ sym (tents-from p g (all_below-from _ _ trees-right) (all_below-from _ _ touch-right) (all_below-from _ _ columns-right)
-        (all_below-from _ _ rows-right) (sym on))
-    | inr off ↦ off ∙ sym (false_from_ne_true _ (λ on. true≢false (sym (tents-parts p g on).paired ∙ off)))
-  ]
+  completed = grind (arith, common_steps, tents-from, all_below-from, trees-right, touch-right, columns-right, rows-right, tents-parts)

@@ -165,10 +165,7 @@ at-passing test zero lt on = absurd (omega arith)
 at-passing test (suc n) {c} lt on = ap (λ l. slice_index l (count_below test c)) (passing-suc test n) ∙ elim (cases_lt c n) [
   | inl low ↦ get_or_append_left (passing test n) (cond (test n) (n ∷ []) []) 0 (count_below test c)
       (omega (arith, counted test c n low on, passing-long test n)) ∙ at-passing test n low on
-  | inr high ↦
-      let same : c ≡ n = omega arith in
-      rw (same, rw same at on) (get_or-append_right (passing test n) (n ∷ []) (count_below test n) (count_below test n) 0 (passing-long test n) (omega arith)
-      ∙ (let z : count_below test n - count_below test n ≡ 0 = omega arith in rw z refl))
+  | inr high ↦ grind (arith, common_steps, get_or-append_right, passing-long)
 ]
 
 pub record IsPassing (test : ℕ → Bool) (n r : ℕ) : Type 0 where

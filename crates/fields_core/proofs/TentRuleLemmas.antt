@@ -32,6 +32,7 @@ set-of p c inside on beside = grind (arith, common_steps, beside-in, some-wide, 
 pub pairs-from : {p : Tents} {g : List ℕ} {tree_of : ℕ → ℕ} → length g ≡ tent_cells p → IsPairedBy p g tree_of → can_be_paired p g ≡ true
 unfolding can_be_paired tents_of
 pairs-from {p} {g} {tree_of} long is =
+    let none_out : leaves_none_out p chosen ≡ true = grind (arith, common_steps, all_below-from, or_right, place-map, tent-listed, or_left) in
     test_from_filling _
     (λ chosen. names_none_twice chosen && leaves_none_out p chosen) chosen fills
     (and_from _ _ twice none_out)
@@ -54,9 +55,6 @@ pairs-from {p} {g} {tree_of} long is =
 
     twice : names_none_twice chosen ≡ true
     twice = grind (arith, common_steps, none-twice-from, distinct-from, different-map, different-from, tents-distinct, listed-tent, below)
-
-    none_out : leaves_none_out p chosen ≡ true
-    none_out = grind (arith, common_steps, all_below-from, or_right, place-map, tent-listed, or_left)
 
 -- the number of a tree, and the tree of a number
 tree-number : (p : Tents) {c : ℕ} → c < tent_cells p → tree p c ≡ true → (count_below (tree p) c < tree_count p)

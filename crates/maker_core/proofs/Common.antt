@@ -89,7 +89,7 @@ pub use Rattle.solo_core.specs.declared.houses.house.NamedHouse.TheVariants.{Blo
 pub use Rattle.fields_core.proofs.HouseLemmas.{step-keep, step-none, step-skip}
 pub use Rattle.fields_core.proofs.LightRuleLemmas.{light-lawful}
 pub use Rattle.fields_core.proofs.LightHouseLaws.{lit-from, lit-parts}
-pub use Rattle.fields_core.proofs.LightHouseLaws.{column-both, column-self, row-both, row-self, white-in}
+pub use Rattle.fields_core.proofs.LightHouseLaws.{sees_back, white-in}
 pub use Rattle.fields_core.proofs.LightRuleLemmas.{rule-from-test, test-from-rule}
 pub use Rattle.fields_core.proofs.LightHouseLaws.{bulb-in}
 pub use Rattle.fields_core.proofs.PlaceLists.{filter-few}

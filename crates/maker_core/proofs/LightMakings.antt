@@ -1,5 +1,5 @@
 -- Light Up: fillings, and the puzzles of them.
-use Rattle.maker_core.proofs.Common.{All, All-contains, AreAll, Black, Bool, Contains-get_or, Contains-permutation, Extent, HasOne, IsGrid, IsLawful, IsLit, IsOnly, IsPermutation, IsPermutation-sym, Light, LightCell, LightFilling, List, Numbered, TellsOne, White, add-one, all_below-at, all_below-from, and_from, any_below-here, any_below-some, ap, arith, beside, black_right, bulb, bulb-in, bulb_right, bulbs_after, bulbs_beside, cases_eq, closure_inside, column-both, column-self, common_steps, cond_both, count_by-le-length, elements, false, false_from_ne_true, fill_by_all, filter, filter_passes, get_or, get_or-map, get_or-map-range_with_len, get_or_default, get_or_past, has_one, if◌then◌else◌, inl, inr, is_one, joined_in_column, joined_in_row, length, length-map, length-map-range_with_len, light-lawful, light_cells, light_puzzle_of, light_rules, lights_of, lit-from, lit-parts, lit_right, map, not, number_is, number_right, numbered_cell, or_cases, or_left, or_right, range_with_len, refl, replicate, row-both, row-self, sees, sees_bulb, slice_index, slice_set, solves_lights, start_of, steps-few, suc, sym, true, true≢false, white, white-in, white_places, with_bulb, with_numbers, zero, ℕ, ◌*◌, ◌+◌, ◌<◌, ◌==◌, ◌||◌, ◌∙◌, ◌≡◌, ◌≤◌}
+use Rattle.maker_core.proofs.Common.{All, All-contains, AreAll, Black, Bool, Contains-get_or, Contains-permutation, Extent, HasOne, IsGrid, IsLawful, IsLit, IsOnly, IsPermutation, IsPermutation-sym, Light, LightCell, LightFilling, List, Numbered, TellsOne, White, add-one, all_below-at, all_below-from, and_from, any_below-here, any_below-some, ap, arith, beside, black_right, bulb, bulb-in, bulb_right, bulbs_after, bulbs_beside, cases_eq, closure_inside, common_steps, cond_both, count_by-le-length, elements, false, false_from_ne_true, fill_by_all, filter, filter_passes, get_or, get_or-map, get_or-map-range_with_len, get_or_default, get_or_past, has_one, if◌then◌else◌, inl, inr, is_one, joined_in_column, joined_in_row, length, length-map, length-map-range_with_len, light-lawful, light_cells, light_puzzle_of, light_rules, lights_of, lit-from, lit-parts, lit_right, map, not, number_is, number_right, numbered_cell, or_cases, or_left, or_right, range_with_len, refl, replicate, sees, sees_back, sees_bulb, slice_index, slice_set, solves_lights, start_of, steps-few, suc, sym, true, true≢false, white, white-in, white_places, with_bulb, with_numbers, zero, ℕ, ◌*◌, ◌+◌, ◌<◌, ◌==◌, ◌||◌, ◌∙◌, ◌≡◌, ◌≤◌}
 use Rattle.maker_core.proofs.WrittenGrids.{filter_laws, grid_with, no_one, old_stays, passes_kept, zeros-grid}
 use Rattle.maker_core.proofs.FirstTries.{found_at_once, one_grid}
 
@@ -67,11 +67,6 @@ same_sees p g long a b = simp (same_white p g long)
 pub same_seen : (p : Light) (g : List ℕ) → length p.cells ≡ light_cells p → (c : ℕ) → sees_bulb (with_numbers p g) g c ≡ sees_bulb p g c
 unfolding sees_bulb with_numbers
 same_seen p g long c = simp (same_sees p g long)
-
--- ---- both ways
-pub sees_back : (p : Light) (a b : ℕ) → white p a ≡ true → sees p a b ≡ true → sees p b a ≡ true
-unfolding sees
-sees_back p a b on seen = grind (arith, row-both p a b a, row-self p a, column-both p a b a, column-self p a)
 
 pub sees_itself : (p : Light) (a : ℕ) → sees p a a ≡ false
 unfolding sees

@@ -47,24 +47,12 @@ crossed-at size (Column x) bits k lt less = rw (div-mul-add k size.w x lt, mod-m
 pub crossed-some : (size : Extent) (line : Line) (bits c : ℕ) → 0 < size.w → c < size.w * size.h → crosses line bits (c / size.w) (c % size.w) ≡ true
     → (k : ℕ) × (k < line_len size line) × (has_bit bits k ≡ true) × (cell_of size line k ≡ c)
 unfolding crosses
-crossed-some size (Row y) bits c some lt on =
-    let w = and_parts _ _ on in (c % size.w, mod_below c size.w some, w.1, rw (← eqb-true _ _ w.0) (div-add-mod' c size.w))
-crossed-some size (Column x) bits c some lt on =
-    let w = and_parts _ _ on in
-    (c / size.w, div_below c size.w size.h some (omega arith), w.1, rw (← eqb-true _ _ w.0) (div-add-mod' c size.w))
+crossed-some = grind (arith, common_steps, and_parts, mod_below, eqb-true, div-add-mod', div_below)
 
 -- a cell has fewer values exactly where it lost one
 lost-two : (a b x y : Bool) → (x ≡ true → a ≡ true) → (y ≡ true → b ≡ true)
     → (x || y) ≡ not (eqb (cond a 1 0 + cond b 1 0) (cond (a && not x) 1 0 + cond (b && not y) 1 0))
-lost-two true true true true w b = refl
-lost-two true true true false w b = refl
-lost-two true true false true w b = refl
-lost-two true true false false w b = refl
-lost-two true false true y w b = grind (arith, common_steps, cases_Bool y, b)
-lost-two true false false y w b = grind (arith, common_steps, cases_Bool y, b)
-lost-two false true x true w b = grind (arith, common_steps, cases_Bool x, w)
-lost-two false true x false w b = grind (arith, common_steps, cases_Bool x, w)
-lost-two false false x y w b = grind (arith, common_steps, cases_Bool x, cases_Bool y, w, b)
+lost-two = grind (arith, common_steps, cases_Bool)
 
 -- ---- what is kept of a line
 module _ (pat : Pattern) (p : Layers) (line : Line) (same : p.size ≡ pat.size) (lt : number_of line < lines_beside pat.size line)

@@ -1,5 +1,5 @@
 -- Words as sets of places, and the cells of a line as words.
-use Rattle.pattern_core.proofs.Common.{AreRowsKept, Bool, add-one, ahead, List, Track, and-false, and-true, ap, arith, cases_Bool, cases_eq, cell_is, common_steps, cond, eq-eqb, eqb, false, from_bool, fun_ext, get_or, goes_on, has_bit, inl, inr, le-ltb, led, length, lt-ltb, ltb, ne_eqb, one_on, or-false, refl, set_at, set_with, sets_by, sets_of, slice_index, some_leads, can_stay, subst, suc, sym, zero, ℕ, ◌%◌, ◌&&◌, ◌*◌, ◌+◌, ◌-◌, ◌<◌, ◌||◌, ◌∙◌, ◌≡◌, ◌≤◌}
+use Rattle.pattern_core.proofs.Common.{AreRowsKept, Bool, add-one, ahead, List, Track, and-false, and-true, ap, arith, cases_Bool, cases_eq, cell_is, common_steps, cond, eq-eqb, eqb, false, from_bool, fun_ext, get_or, goes_on, has_bit, le-ltb, led, length, lt-ltb, ltb, ne_eqb, one_on, or-false, refl, set_at, set_with, sets_by, sets_of, slice_index, some_leads, can_stay, suc, sym, zero, ℕ, ◌%◌, ◌&&◌, ◌*◌, ◌+◌, ◌-◌, ◌<◌, ◌||◌, ◌∙◌, ◌≡◌, ◌≤◌}
 use Rattle.pattern_core.specs.LinePlanes.{AreSmall}
 use Rattle.std.proofs.lemmas.List.{ext_get_or}
 use Rattle.grid_core.proofs.WordLemmas.{either-bits, power-bits, zero-bits}
@@ -60,11 +60,7 @@ sets-bit white black count k (suc (suc v)) lt low = absurd (omega arith)
 
 -- ---- the cells of sets
 two_bits : (set : ℕ) → set < 4 → from_bool (eqb (set % 2) 1) + 2 * from_bool (ltb 1 set) ≡ set
-two_bits zero low = refl
-two_bits (suc zero) low = refl
-two_bits (suc (suc zero)) low = refl
-two_bits (suc (suc (suc zero))) low = refl
-two_bits (suc (suc (suc (suc set)))) low = absurd (omega arith)
+two_bits = grind (arith, common_steps)
 
 pub sets-are : (white black : ℕ) (sets : List ℕ) {count : ℕ} → length sets ≡ count → ((k : ℕ) → k < count → slice_index sets k ≡ set_at white black k)
     → sets ≡ sets_by white black count
@@ -87,10 +83,7 @@ shown-none word is none = record { below = λ k lt. absurd (omega arith); beyond
 pub shown-more : {word next : ℕ} (is : ℕ → Bool → Type 0) (on : Bool) (at : ℕ) → IsShownTo word is at
     → ((k : ℕ) → has_bit next k ≡ (has_bit word k || (on && eqb k at))) → is at on → IsShownTo next is (at + 1)
 shown-more {word} is on at are with_it here = record {
-  below = λ k lt. elim (cases_eq k at) [
-    | inl e ↦ rw e (subst (is at) (sym (with_it at ∙ rw (are.beyond at (omega arith), eq-eqb at at refl) (and-true on))) here)
-    | inr ne ↦ subst (is k) (sym (with_it k ∙ rw (ne_eqb k at ne) (ap (λ b. has_bit word k || b) (and-false on) ∙ or-false (has_bit word k)))) (are.below k (omega arith))
-  ];
+  below = grind (arith, common_steps, cases_eq, eq-eqb, and-true, ne_eqb, and-false, or-false);
   beyond = λ k le. with_it k ∙ rw (are.beyond k (omega arith), ne_eqb k at (λ e. omega arith)) (and-false on);
 }
 

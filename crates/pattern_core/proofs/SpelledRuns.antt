@@ -49,10 +49,7 @@ starts_none (suc m ∷ clue) p = long m clue
 
 goes_on_none : RunsGoOn []
 unfolding spelled runs_after matches
-goes_on_none k zero [] p = sym (ap (λ b. b && true) (eq-eqb (suc k) (suc k + 0) (omega arith)))
-goes_on_none k zero (zero ∷ clue) p = absurd (omega arith)
-goes_on_none k zero (suc m ∷ clue) p = lt-leb (length (0 ∷ spelled (suc m ∷ clue))) 1 (omega arith) ∙ sym (and-false _)
-goes_on_none k (suc d) clue p = long d clue ∙ sym (ap (λ b. b && pointwise eqb [] clue) (ne_eqb (suc k) _ (λ e. absurd (omega arith))))
+goes_on_none = grind (arith, common_steps, eq-eqb, lt-leb, and-false, long, pointwise, eqb, ne_eqb)
 
 starts_white : (cells : List ℕ) → Starts cells → Starts (zero ∷ cells)
 unfolding spelled runs_after matches

@@ -1,5 +1,5 @@
 -- The steps of the table at a place of the line, and the line that goes along the spelled clue by the places that its cells reach.
-use Rattle.pattern_core.proofs.Common.{ArePositive, AreRows, AreRowsKept, Bool, IsBelow, IsDecidedBy, List, Track, [], ahead, and-true, and_from, and_parts, any_below, any_below-here, any_below-same, any_below-some, any_cells, ap, arith, cases_Bool, cases_eq, cell_is, common_steps, drop, drop-drop, drop_all, drop_more, eqb, eqb-true, false, false_from_ne_true, fun_ext, get_or, get_or-drop, get_or-map, get_or-set_other, get_or-set_same, goes_on, has_bit, has_runs, inl, inr, leads, led, length, length-map, length-set, or-false, refl, set, set_for, set_of_bits, sets_of, some_filling, some_leads, spelled, can_stay, suc, sym, track_of, true, true≢false, zero, ℕ, ◌&&◌, ◌+◌, ◌<◌, ◌||◌, ◌∙◌, ◌∷◌, ◌≡◌, ◌≤◌}
+use Rattle.pattern_core.proofs.Common.{ArePositive, AreRows, AreRowsKept, Bool, IsBelow, IsDecidedBy, List, Track, [], ahead, and-true, and_from, and_parts, any_below, any_below-here, any_below-same, any_below-some, any_cells, ap, arith, cases_Bool, cases_eq, cell_is, common_steps, drop, drop-drop, drop_all, drop_more, eqb, eqb-true, false, false_from_ne_true, fun_ext, get_or, get_or-drop, get_or-map, get_or-set_other, get_or-set_same, goes_on, has_bit, has_runs, leads, led, length, length-map, length-set, or-false, refl, set, set_for, set_of_bits, sets_of, some_filling, some_leads, spelled, can_stay, suc, sym, track_of, true, true≢false, zero, ℕ, ◌&&◌, ◌+◌, ◌<◌, ◌||◌, ◌∙◌, ◌∷◌, ◌≡◌, ◌≤◌}
 use Rattle.std.proofs.Math.Bool.{and_comm}
 use Rattle.pattern_core.proofs.SpelledRuns.{leads_here, leads_next, leads_runs, same_tests, strikes_by_track, ways_on}
 
@@ -48,12 +48,7 @@ module _ {A : Type 0} (has : A → ℕ → Bool) (t : Track) (sets : List ℕ) (
       → ((p : ℕ) → has row p ≡ ahead t (get_or sets at 0) (has next) p) → AreRows has t sets (set rows at row) at
   one_row at row {next} rest lt read is = record {
     room = omega (arith, length-set rows at row);
-    row = λ i p w from upto. elim (cases_eq i at) [
-      | inl e ↦ ap (λ j. has (get_or (set rows at row) j w) p) e ∙ ap (λ x. has x p) (get_or-set_same rows at row w (omega arith)) ∙ is p
-          ∙ ap (λ after. ahead t (get_or sets at 0) after p) (sym (row_next (at + 1) at next rest (omega arith) lt read)) ∙ sym (way_any t sets at lt p)
-          ∙ ap (λ j. some_leads t (drop j (sets_of sets)) any_cells p) (sym e)
-      | inr ne ↦ ap (λ x. has x p) (get_or-set_other rows at i row w ne) ∙ rest.row i p w (omega arith) upto
-    ];
+    row = grind (arith, common_steps, cases_eq, set, get_or-set_same, row_next, way_any, get_or-set_other, rest.row);
   }
 
 -- ---- the places reached

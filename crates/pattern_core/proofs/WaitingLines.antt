@@ -59,17 +59,11 @@ same-house size (Row y) j lt = grind (arith, common_steps, cases_lt j size.w, lt
 
 -- the same line
 is-same : (line other : Line) → is_same line other ≡ true → other ≡ line
-is-same (Column x) (Column z) on = ap Column (eqb-true _ _ on)
-is-same (Column x) (Row y) on = absurd (false≢true on)
-is-same (Row y) (Column x) on = absurd (false≢true on)
-is-same (Row y) (Row z) on = ap Row (eqb-true _ _ on)
+is-same = grind (arith, common_steps, eqb-true, false≢true)
 
 same-number : (size : Extent) (line other : Line) → number_of line < lines_beside size line → number_of other < lines_beside size other
     → line_house size other ≡ line_house size line → is_same line other ≡ true
-same-number size (Column x) (Column z) lt less e = eq-eqb _ _ e
-same-number size (Column x) (Row y) lt less e = absurd (omega arith)
-same-number size (Row y) (Column x) lt less e = absurd (omega arith)
-same-number size (Row y) (Row z) lt less e = eq-eqb z y (omega arith)
+same-number = grind (arith, common_steps, eq-eqb)
 
 -- ---- what waits at the start
 -- of the first n lines those without a mark strike nothing, and no other has one
@@ -82,18 +76,8 @@ pub weighed-more : {W : Type 0} {bits : W → ℕ} {p : Pattern} {waits : LinesW
     → line_house p.size line ≡ n → ((other : Line) → is_marked bits waits' other ≡ (is_marked bits waits other || (on && is_same line other)))
     → (on ≡ false → IsIdle (line_rules p) n (line_rules p).start) → AreWeighed bits p waits n → AreWeighed bits p waits' (n + 1)
 weighed-more {bits} {p} {waits} waits' line on {n} lt is marks idle are = record {
-  idle = λ other less below off.
-      let parts = or_parts (is_marked bits waits other) (on && is_same line other) (sym (marks other) ∙ off) in
-      elim (cases_eq (line_house p.size other) n) [
-        | inl e ↦ (
-            let same = same-number p.size line other lt less (e ∙ sym is) in
-            rw e (idle (grind (arith, common_steps, cases_Bool on, same, parts.1))))
-        | inr ne ↦ are.idle other less (omega arith) parts.0
-      ];
-  within = λ other yes. elim (or_cases _ _ (sym (marks other) ∙ yes)) [
-    | inl old ↦ (let w = are.within other old in (w.0, omega (arith, w.1)))
-    | inr new ↦ (let e = is-same line other (and_parts _ _ new).1 in rw e (lt, omega (arith, is)))
-  ];
+  idle = grind (arith, common_steps, or_parts, cases_eq, same-number, cases_Bool, p.size, are.idle);
+  within = grind (arith, common_steps, or_cases, is-same, and_parts, are.within);
 }
 
 pub weighed-all : {W : Type 0} {bits : W → ℕ} {p : Pattern} {waits : LinesWaiting W} {n : ℕ} → n ≡ lines_of p.size → AreWeighed bits p waits n → IsStart bits p waits
@@ -202,12 +186,7 @@ module _ (p : Pattern) (line : Line) (lt : number_of line < lines_beside p.size 
         let lk : w.0 < line_len p.size line = omega (arith, long) in
         let other = ap (λ i. eqb i house) w.1 ∙ cross-other p.size line lt lk in
         on ∙ sym (and_from _ _ (any_below-here (called j) (length places) w.0 less (called-at less w.2 w.1)) (ap not other)))
-    | inr off ↦ rw off (sym (false_from_ne_true _ (λ yes.
-        let u = and_parts _ _ yes in let w = any_below-some (called j) (length places) u.0 in
-        let lk : w.0 < line_len p.size line = omega (arith, long, w.1) in
-        let v = and_parts _ _ (sym (called-is j w.1) ∙ w.2) in
-        let e : j ≡ cross_of p.size line w.0 = eqb-true _ _ (grind (arith, common_steps, cases_Bool (eqb j house), v.1, u.1)) in
-        true≢false (sym (rw (e, crossed-here p.size line lt lost lk) v.0) ∙ off))))
+    | inr off ↦ grind (arith, common_steps, any_below-some, long, called-is, crossed-here)
   ]
 
   module _ {W : Type 0} (bits : W → ℕ) (waits now : LinesWaiting W)

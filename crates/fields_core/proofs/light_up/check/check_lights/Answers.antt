@@ -34,31 +34,32 @@ returns-in-Some c =
 
 pub returns-in-Some-next_passing : goal.returns-in-Some-next_passing
 returns-in-Some-next_passing c =
-    let p = c.args.puzzle.now in let g = c.args.grid.now in
+    let p = c.args.puzzle.now in let g = c.args.grid.now in let q = goal.at.returns-in-Some-next_passing c in
     let w = told p g c.requires.fits (first-wrong (FailsLight p g) (black p g ∷ []) (number p g) (seen p g ∷ dark p g ∷ []) (light-made p g c.requires.fits)
-    (all-right (FailsLight p g) (black p g) (rw c.in_default.is at (found-black (goal.at.returns-in-Some-next_passing c).After-next_passing)), tt)
-    (rw c.in-Some-next_passing.is at (found-number (goal.at.returns-in-Some-next_passing c).After-next_passing-2))) in
+    (rw c.in_default.is at (found-black q.After-next_passing), tt)
+    (rw c.in-Some-next_passing.is at (found-number q.After-next_passing-2))) in
     record { fault = w.0; solution = w.1 }
 
 pub returns-in-Some-next_passing-2 : goal.returns-in-Some-next_passing-2
 returns-in-Some-next_passing-2 c =
-    let p = c.args.puzzle.now in let g = c.args.grid.now in
+    let p = c.args.puzzle.now in let g = c.args.grid.now in let q = goal.at.returns-in-Some-next_passing-2 c in
     let w = told p g c.requires.fits (first-wrong (FailsLight p g) (black p g ∷ number p g ∷ []) (seen p g) (dark p g ∷ []) (light-made p g c.requires.fits)
-    (all-right (FailsLight p g) (black p g) (rw c.in_default.is at (found-black (goal.at.returns-in-Some-next_passing-2 c).After-next_passing)), (all-right (FailsLight p g) (number p g) (rw c.in_default-next_passing.is at (found-number (goal.at.returns-in-Some-next_passing-2 c).After-next_passing-2)), tt))
-    (rw c.in-Some-next_passing-2.is at (found-seen (goal.at.returns-in-Some-next_passing-2 c).After-next_passing-3))) in
+    (rw c.in_default.is at (found-black q.After-next_passing), (rw c.in_default-next_passing.is at (found-number q.After-next_passing-2), tt))
+    (rw c.in-Some-next_passing-2.is at (found-seen q.After-next_passing-3))) in
     record { fault = w.0; solution = w.1 }
 
 pub returns-in-Some-next_passing-3 : goal.returns-in-Some-next_passing-3
 returns-in-Some-next_passing-3 c =
-    let p = c.args.puzzle.now in let g = c.args.grid.now in
+    let p = c.args.puzzle.now in let g = c.args.grid.now in let q = goal.at.returns-in-Some-next_passing-3 c in
     let w = told p g c.requires.fits (first-wrong (FailsLight p g) (black p g ∷ number p g ∷ seen p g ∷ []) (dark p g) ([]) (light-made p g c.requires.fits)
-    (all-right (FailsLight p g) (black p g) (rw c.in_default.is at (found-black (goal.at.returns-in-Some-next_passing-3 c).After-next_passing)), (all-right (FailsLight p g) (number p g) (rw c.in_default-next_passing.is at (found-number (goal.at.returns-in-Some-next_passing-3 c).After-next_passing-2)), (all-right (FailsLight p g) (seen p g) (rw c.in_default-next_passing-2.is at (found-seen (goal.at.returns-in-Some-next_passing-3 c).After-next_passing-3)), tt)))
-    (rw c.in-Some-next_passing-3.is at (found-dark (goal.at.returns-in-Some-next_passing-3 c).After-next_passing-4))) in
+    (rw c.in_default.is at (found-black q.After-next_passing), (rw c.in_default-next_passing.is at (found-number q.After-next_passing-2), (rw c.in_default-next_passing-2.is at (found-seen q.After-next_passing-3), tt)))
+    (rw c.in-Some-next_passing-3.is at (found-dark q.After-next_passing-4))) in
     record { fault = w.0; solution = w.1 }
 
 pub returns : goal.returns
 returns c =
-    let p = c.args.puzzle.now in let g = c.args.grid.now in
+    let p = c.args.puzzle.now in let g = c.args.grid.now in let q = goal.at.returns c in
     let w = told p g c.requires.fits {fault = None} (light-sound p g c.requires.fits (none_right (FailsLight p g) (kinds p g) (light-made p g c.requires.fits)
-    (all-right (FailsLight p g) (black p g) (rw c.in_default.is at (found-black (goal.at.returns c).After-next_passing)), (all-right (FailsLight p g) (number p g) (rw c.in_default-next_passing.is at (found-number (goal.at.returns c).After-next_passing-2)), (all-right (FailsLight p g) (seen p g) (rw c.in_default-next_passing-2.is at (found-seen (goal.at.returns c).After-next_passing-3)), (all-right (FailsLight p g) (dark p g) (rw c.in_default-next_passing-3.is at (found-dark (goal.at.returns c).After-next_passing-4)), tt)))))) in
+    (all-right (FailsLight p g) (kinds p g)
+    (rw c.in_default.is at (found-black q.After-next_passing), (rw c.in_default-next_passing.is at (found-number q.After-next_passing-2), (rw c.in_default-next_passing-2.is at (found-seen q.After-next_passing-3), (rw c.in_default-next_passing-3.is at (found-dark q.After-next_passing-4), tt))))))) in
     record { fault = w.0; solution = w.1 }

@@ -29,34 +29,37 @@ returns-in-Some-clause-fault c =
 
 pub returns-in-Some-next_passing-clause-fault : goal.returns-in-Some-next_passing-clause-fault
 returns-in-Some-next_passing-clause-fault c =
-    let p = c.args.puzzle.now in let g = c.args.grid.now in
+    let p = c.args.puzzle.now in let g = c.args.grid.now in let q = goal.at.returns-in-Some-next_passing-clause-fault c in
     first-wrong (FailsTents p g) (trees p g ∷ []) (touch p g) (columns p g ∷ rows p g ∷ match p g ∷ []) (tents-made p g c.requires.fits)
-    (all-right (FailsTents p g) (trees p g) (rw c.in_default.is at (found-trees (goal.at.returns-in-Some-next_passing-clause-fault c).After-next_passing)), tt)
-    (rw c.in-Some-next_passing.is at (found-touch (goal.at.returns-in-Some-next_passing-clause-fault c).After-next_passing-2))
+    (rw c.in_default.is at (found-trees q.After-next_passing), tt)
+    (rw c.in-Some-next_passing.is at (found-touch q.After-next_passing-2))
 
 pub returns-in-Some-next_passing-2-clause-fault : goal.returns-in-Some-next_passing-2-clause-fault
 returns-in-Some-next_passing-2-clause-fault c =
-    let p = c.args.puzzle.now in let g = c.args.grid.now in
+    let p = c.args.puzzle.now in let g = c.args.grid.now in let q = goal.at.returns-in-Some-next_passing-2-clause-fault c in
     first-wrong (FailsTents p g) (trees p g ∷ touch p g ∷ []) (columns p g) (rows p g ∷ match p g ∷ []) (tents-made p g c.requires.fits)
-    (all-right (FailsTents p g) (trees p g) (rw c.in_default.is at (found-trees (goal.at.returns-in-Some-next_passing-2-clause-fault c).After-next_passing)), (all-right (FailsTents p g) (touch p g) (rw c.in_default-next_passing.is at (found-touch (goal.at.returns-in-Some-next_passing-2-clause-fault c).After-next_passing-2)), tt))
-    (rw c.in-Some-next_passing-2.is at (found-columns (goal.at.returns-in-Some-next_passing-2-clause-fault c).After-next_passing-3))
+    (rw c.in_default.is at (found-trees q.After-next_passing), (rw c.in_default-next_passing.is at (found-touch q.After-next_passing-2), tt))
+    (rw c.in-Some-next_passing-2.is at (found-columns q.After-next_passing-3))
 
 pub returns-in-Some-next_passing-3-clause-fault : goal.returns-in-Some-next_passing-3-clause-fault
 returns-in-Some-next_passing-3-clause-fault c =
-    let p = c.args.puzzle.now in let g = c.args.grid.now in
+    let p = c.args.puzzle.now in let g = c.args.grid.now in let q = goal.at.returns-in-Some-next_passing-3-clause-fault c in
     first-wrong (FailsTents p g) (trees p g ∷ touch p g ∷ columns p g ∷ []) (rows p g) (match p g ∷ []) (tents-made p g c.requires.fits)
-    (all-right (FailsTents p g) (trees p g) (rw c.in_default.is at (found-trees (goal.at.returns-in-Some-next_passing-3-clause-fault c).After-next_passing)), (all-right (FailsTents p g) (touch p g) (rw c.in_default-next_passing.is at (found-touch (goal.at.returns-in-Some-next_passing-3-clause-fault c).After-next_passing-2)), (all-right (FailsTents p g) (columns p g) (rw c.in_default-next_passing-2.is at (found-columns (goal.at.returns-in-Some-next_passing-3-clause-fault c).After-next_passing-3)), tt)))
-    (rw c.in-Some-next_passing-3.is at (found-rows (goal.at.returns-in-Some-next_passing-3-clause-fault c).After-next_passing-4))
+    (rw c.in_default.is at (found-trees q.After-next_passing), (rw c.in_default-next_passing.is at (found-touch q.After-next_passing-2), (rw c.in_default-next_passing-2.is at (found-columns q.After-next_passing-3), tt)))
+    (rw c.in-Some-next_passing-3.is at (found-rows q.After-next_passing-4))
 
 pub returns-clause-fault : goal.returns-clause-fault
 returns-clause-fault c =
-    let p = c.args.puzzle.now in let g = c.args.grid.now in
+    let p = c.args.puzzle.now in let g = c.args.grid.now in let q = goal.at.returns-clause-fault c in
     first_in (FailsTents p g) (trees p g ∷ touch p g ∷ columns p g ∷ rows p g ∷ []) (match p g) [] (tents-made p g c.requires.fits)
-    (all-right (FailsTents p g) (trees p g) (rw c.in_default.is at (found-trees (goal.at.returns-clause-fault c).After-next_passing)), (all-right (FailsTents p g) (touch p g) (rw c.in_default-next_passing.is at (found-touch (goal.at.returns-clause-fault c).After-next_passing-2)), (all-right (FailsTents p g) (columns p g) (rw c.in_default-next_passing-2.is at (found-columns (goal.at.returns-clause-fault c).After-next_passing-3)), (all-right (FailsTents p g) (rows p g) (rw c.in_default-next_passing-3.is at (found-rows (goal.at.returns-clause-fault c).After-next_passing-4)), tt))))
+    (all-right (FailsTents p g) (trees p g ∷ touch p g ∷ columns p g ∷ rows p g ∷ [])
+    (rw c.in_default.is at (found-trees q.After-next_passing), (rw c.in_default-next_passing.is at (found-touch q.After-next_passing-2), (rw c.in_default-next_passing-2.is at (found-columns q.After-next_passing-3), (rw c.in_default-next_passing-3.is at (found-rows q.After-next_passing-4), tt)))))
     0 (omega arith) (sym c.are_paired.ensures.paired ∙ c.if-are_paired.false) (λ d low. absurd (omega arith))
 
 pub returns-then-are_paired-clause-fault : goal.returns-then-are_paired-clause-fault
 returns-then-are_paired-clause-fault c =
-    let p = c.args.puzzle.now in let g = c.args.grid.now in
+    let p = c.args.puzzle.now in let g = c.args.grid.now in let q = goal.at.returns-then-are_paired-clause-fault c in
+    let r = all-right (FailsTents p g) (trees p g ∷ touch p g ∷ columns p g ∷ rows p g ∷ [])
+    (rw c.in_default.is at (found-trees q.After-next_passing), (rw c.in_default-next_passing.is at (found-touch q.After-next_passing-2), (rw c.in_default-next_passing-2.is at (found-columns q.After-next_passing-3), (rw c.in_default-next_passing-3.is at (found-rows q.After-next_passing-4), tt)))) in
     tents-sound p g c.requires.fits (none_right (FailsTents p g) (kinds p g) (tents-made p g c.requires.fits)
-    (all-right (FailsTents p g) (trees p g) (rw c.in_default.is at (found-trees (goal.at.returns-then-are_paired-clause-fault c).After-next_passing)), (all-right (FailsTents p g) (touch p g) (rw c.in_default-next_passing.is at (found-touch (goal.at.returns-then-are_paired-clause-fault c).After-next_passing-2)), (all-right (FailsTents p g) (columns p g) (rw c.in_default-next_passing-2.is at (found-columns (goal.at.returns-then-are_paired-clause-fault c).After-next_passing-3)), (all-right (FailsTents p g) (rows p g) (rw c.in_default-next_passing-3.is at (found-rows (goal.at.returns-then-are_paired-clause-fault c).After-next_passing-4)), ((λ k lt. sym c.are_paired.ensures.paired ∙ c.if-are_paired.true), tt))))))
+    (r.0, (r.1.0, (r.1.1.0, (r.1.1.1.0, ((λ k lt. sym c.are_paired.ensures.paired ∙ c.if-are_paired.true), tt))))))

@@ -3,7 +3,8 @@ use Rattle.fields_core.proofs.IdleLemmas.{visited-skip}
 use Rattle.fields_core.proofs.LightRuleLemmas.{light-board}
 use Rattle.fields_core.proofs.LightSafeCells.{joined-down, safe-moved}
 use Rattle.fields_core.proofs.LightReach.{away-from}
-use Rattle.fields_core.proofs.LightRunOrder.{column-white-start}
+use Rattle.fields_core.proofs.LightHouseLaws.{line-start}
+use Rattle.fields_core.specs.declared.planes.light_up.waits.RunKind.TheVariants.{Columns}
 use Rattle.fields_core.proofs.LightSweeps.{black-idle, column-safe, lits-are, lits-done, lits-safe, lits-stay, out-idle, planes-full, planes-next, ready-next, row-lits, row-stays}
 use Rattle.fields_core.proofs.CellLemmas.{first-off, rows-read, second-off}
 use Rattle.fields_core.proofs.VisitLemmas.{sweep-broken, sweep-first, sweep-more}
@@ -36,7 +37,7 @@ module _ (g : _) (c : After-whites-some g) where
       let at : c.loop-y.y * p.size.w + x ≡ v.0 * p.size.w + x + p.size.w = rw (sym v.1) (omega arith) in
       let is_white : white p (c.loop-y.y * p.size.w + x) ≡ true = own.1 in
       rw at (safe-moved (joined-down p (v.0 * p.size.w + x) (light-board c.requires.ready.planes_of.lawful).some
-      (column-white-start p (v.0 * p.size.w + x) v.2.one v.2.one_in) (rw at at is_white)) v.2)
+      (line-start p Columns (v.0 * p.size.w + x) v.2.one v.2.one_in) (rw at at is_white)) v.2)
 
   -- a cell of the row that is not looked at
   pub idle : AreWhitesIdleBut c.args.puzzle.now (g.W.Word.bits c.whites-some.result) c.loop-y.y (planes_have c.loop-y.planes)
