@@ -4,6 +4,7 @@ by pkg-config, by CMake and statically, and the folder for npm offline with its 
     python3 -m pytest --slow tests/packages/test_bare.py --program=PROGRAM --library=LIBRARY --module=MODULE
 """
 import os
+import pathlib
 import shutil
 import subprocess
 
@@ -18,7 +19,8 @@ TOOLS = {"library": ["gcc", "libc6-dev", "pkg-config", "cmake", "make"], "npm": 
 CALL = ["pattern", "5x1:1/1//1/1/2.2"]
 INSIDE = 'mount -t proc proc "$0/proc" && mount --bind /dev "$0/dev" && exec chroot "$0" "$@"'
 KNOWN = ["PATH=/usr/sbin:/usr/bin:/sbin:/bin", "HOME=/there", "LC_ALL=C.UTF-8", "DEBIAN_FRONTEND=noninteractive"]
-STRICT = ["--strict", "--noEmit", "--target", "es2022", "--module", "node16", "--moduleResolution", "node16", "--lib", "es2022,dom"]
+STRICT = ["--strict", "--noEmit", "--target", "es2022", "--module", "node16", "--moduleResolution", "node16",
+          "--lib", "es2022,dom"]
 pytestmark = [pytest.mark.slow, pytest.mark.needs("debootstrap", "unshare", "dpkg", "git", "a commit"),
               pytest.mark.skipif(os.geteuid() != 0, reason="not root"), pytest.mark.xdist_group("bare")]
 
@@ -50,10 +52,10 @@ class Bare:
         self.run("apt-get", "-q", "-y", "install", "--no-install-recommends", *packages)
 
     def ours(self, files):
-        """Installs packages that lie there."""
-        for file in files:
-            shutil.copy(file, self.there)
-        self.install(*(f"/there/{file.name}" for file in files))
+        """Installs packages of files."""
+        names = [pathlib.Path(shutil.copy(file, self.there)).name for file in files]
+        assert names
+        self.install(*(f"/there/{name}" for name in names))
 
     def left(self):
         """Files that have our name."""
@@ -67,11 +69,11 @@ def bare(tmp_path_factory):
 
 
 def test_program(bare, program, tmp_path):
-    """the program runs without Python, a tool says that Python isn't there, and all of it goes"""
+    """the program runs without Python, a tool doesn't, and all of it goes"""
     ran([TOP / "packaging/package.py", program, tmp_path])
     bare.ours(tmp_path.glob("*.deb"))
     assert bare.run("puzzles", "solve", *CALL) == ANSWER
-    assert "python3" in bare.run("bash", "-c", "puzzles-ids --help 2>&1; [ $? != 0 ]")
+    bare.run("bash", "-c", "! puzzles-ids --help")
     bare.run("apt-get", "-q", "-y", "purge", "puzzles")
     assert bare.left() == []
 
