@@ -27,6 +27,7 @@ FIGURES, FRONT, CHANGES = TOP / "bench" / "README.md", TOP / "docs" / "USE.md", 
 PART = re.compile(r"(?ms)^<!-- (.*?) -->\n(.*?)^<!-- end -->$")
 HEAD = "| Crate | Proof | Tests | Wrong bodies | Their number |\n|---|---|---|---|---|\n"
 COMMAND_SECONDS = 1800
+OF_LIBRARY = "library.py"  # whose table is written where it is named alone, since it wants the built library
 
 
 def wrapped(text):
@@ -135,14 +136,16 @@ def main():
     form.add_argument("--check", action="store_true", help="only tell whether docs/CONTRIBUTING.md has the sums of the gate's table")
     form.add_argument("program", metavar="PROGRAM", nargs="?", type=words.program,
                       help="as `rt run` leaves it: crates/puzzles/out/puzzles")
-    form.add_argument("parts", metavar="SCRIPT", nargs="*", help="the tables of these alone, as made.py; `machine` is one too")
+    form.add_argument("parts", metavar="SCRIPT", nargs="*",
+                      help="the tables of these alone, as made.py; `machine` is one too, and library.py has to be named")
     asked = form.parse_args()
     if asked.check:
         return check()
     if not (asked.program or asked.gate):
         form.error("neither a program nor what gate.py wrote")
     for path, command in [(path, command) for path in (FIGURES, FRONT) for command, _ in PART.findall(path.read_text())]:
-        is_asked = not asked.parts or command.split()[0] in asked.parts
+        name = command.split()[0]
+        is_asked = name in asked.parts if asked.parts else name != OF_LIBRARY
         if asked.gate if command == "gate.py" else asked.program and is_asked:
             new = gate_table("".join(log.read() for log in asked.gate)) if command == "gate.py" else printed(command, asked.program)
             part = f"<!-- {command} -->\n{new}<!-- end -->"

@@ -50,7 +50,7 @@ def build_shared(kit, archive, room):
     exports, made = room / "exports", room / f"{LINK}.{first}"
     exports.write_text(EXPORTS.format(first, second))
     run([kit.linker, "-shared", "-o", made, "--whole-archive", archive, "--no-whole-archive", kit.heap, kit.c_library,
-         "-soname", made.name, "--gc-sections", *SAFE, "--build-id=sha1", "--hash-style=gnu", "--eh-frame-hdr",
+         "-soname", made.name, "--gc-sections", "--strip-all", *SAFE, "--build-id=sha1", "--hash-style=gnu", "--eh-frame-hdr",
          f"--version-script={exports}"])
     return [made, build_static(kit, archive, room), archive, HERE / "puzzles.h"]
 

@@ -98,6 +98,36 @@ def test_large_boards(bench):
     bench.told([BOOK, "--least-cell", "2", bench.folder / "x.pdf", "solo:2x2:any:1"], 2, "the least cell has 3 to 20 mm")
 
 
+def test_by_size(bench):
+    """a file of several sizes gives a chapter for each, the smaller first, whose cells fit it, and its table gives them again"""
+    mixed = bench.folder / "mixed.txt"
+    texts = [bench.generate("pattern", size, seed)[0] for seed in (1, 2) for size in ("25x25", "5x5", "10x10")]
+    mixed.write_text("\n".join(texts) + "\n")
+    words = ["--svg", bench.folder / "drawn", "--by-size"]
+    path, _, rows = make(bench, "sizes.pdf", *words, [f"pattern:@{mixed}:Of all sizes", "solo:2x2:any:1"])
+    assert [row["id"] for row in rows] == [texts[at] for at in (1, 4, 2, 5, 0, 3)] + [rows[6]["id"]], f"{rows}"
+    titles = [f"Of all sizes, {side}×{side}" for side in (5, 10, 25) for _ in range(2)]
+    assert [row["chapter"] for row in rows] == [*titles, ""], f"{rows}"
+    text = pages(bench, path)
+    for row in rows[:6]:
+        assert text[int(row["page"]) - 1].startswith(f"Pattern, {row['chapter']}"), f"{row}"
+    assert len({row["page"] for row in rows[:6]}) == 4, "both of 25x25 on one page, or a page for each small one"
+    _, _, together = make(bench, "together.pdf", [f"pattern:@{mixed}"])
+    assert [row["id"] for row in together] == texts and len({row["page"] for row in together}) == 6, f"{together}"
+    _, _, again = make(bench, "again.pdf", [f"@{path.with_suffix('.csv')}"])
+    assert again == rows, f"{again}"
+
+
+def test_least_pages(bench):
+    """a printer's least number of pages is met by blank ones, with the multiple too"""
+    for words, count in ((["--least-pages", "24"], "24"), (["--least-pages", "25", "--multiple", "4"], "28"),
+                         (["--least-pages", "2"], None)):
+        path, said, _ = make(bench, "least.pdf", *words, ["solo:2x2:any:1"])
+        found = information(bench, path)["Pages"]
+        assert found == (count or found) and int(found) >= 4 and said.endswith(f"{found} pages\n"), f"{words}: {found} {said}"
+    bench.told([BOOK, "--least-pages", "0", bench.folder / "x.pdf", "solo:2x2:any:1"], 2, "the least pages are 1 to 2000")
+
+
 def test_front_is_text(bench):
     """no script of the front matter runs, and no file comes into the book by it"""
     front = bench.folder / "front.html"

@@ -9,7 +9,7 @@ pytestmark = pytest.mark.needs("cc", "nm", "readelf")
 CALLS = "void *malloc(unsigned long);\nvoid *memory(void) { return malloc(1); }\n" + "\n".join(
     f"int {name}(void) {{ return 0; }}" for name in sorted(library_file.EXPORTS))
 SCRIPT = "{} {{ global: puzzles_*; local: *; }};\n"
-RIGHT = ["-Wl,-soname,libpuzzles.so.0", "-Wl,-z,now", "-Wl,-z,noexecstack"]
+RIGHT = ["-Wl,-soname,libpuzzles.so.0", "-Wl,-z,now", "-Wl,-z,noexecstack", "-s"]
 WRONG = [
     ("another name", {"flags": ["-Wl,-soname,libpuzzles.so", *RIGHT[1:]]}, "the name of the library"),
     ("another version", {"version": "PUZZLES_1.0"}, "versions of what is defined"),
@@ -17,10 +17,11 @@ WRONG = [
     ("a call that writes", {"more": "int puts(const char *); void *said = &puts;"}, "names that are needed besides"),
     ("a newer glibc", {"more": 'int poll(void); __asm__(".symver poll,memfd_create@GLIBC_2.27"); void *it = &poll;'},
      "a newer glibc"),
-    ("names that are found late", {"flags": [RIGHT[0], "-Wl,-z,lazy", RIGHT[2]]}, "flags of the loader"),
+    ("names of its inside", {"flags": RIGHT[:3]}, "names of its inside"),
+    ("names that are found late", {"flags": [RIGHT[0], "-Wl,-z,lazy", *RIGHT[2:]]}, "flags of the loader"),
     ("a path of its own", {"flags": [*RIGHT, "-Wl,-rpath,/tmp"]}, "entries of the loader"),
     ("another library", {"flags": [*RIGHT, "-Wl,--no-as-needed", "-lm"]}, "libraries that it needs"),
-    ("a stack that is run", {"flags": [*RIGHT[:2], "-Wl,-z,execstack"]}, "a stack that isn't run"),
+    ("a stack that is run", {"flags": [*RIGHT[:2], "-Wl,-z,execstack", "-s"]}, "a stack that isn't run"),
     ("all open to writing", {"flags": [*RIGHT, "-Wl,-z,norelro"]}, "a part that is closed to writing"),
 ]
 

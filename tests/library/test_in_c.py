@@ -44,3 +44,19 @@ def test_faults(tmp_path):
         done = told(words, env={"PATH": str(tools)})
         assert done.returncode == 1 and said in done.stderr and len(done.stderr.splitlines()) == 1, done.stderr
     assert not (tmp_path / "made").exists()
+
+
+@pytest.mark.slow
+@pytest.mark.needs("aarch64-linux-gnu-gcc", "qemu-aarch64-static", "wasm2c")
+def test_another_processor(module, bench):
+    """compiled for AArch64 it answers as the program does, of each game and each status"""
+    made = bench.folder / "made"
+    assert told([SCRIPT, module, made]).returncode == 0
+    words = ["aarch64-linux-gnu-gcc", "-O1", "-static", "-o", made / "solve", TOP / "examples/library/solve.c", made / "puzzles.c",
+             "-I", made]
+    subprocess.run(words, check=True, timeout=1800)
+    texts = [(game, bench.generate(game, size, seed)[0]) for game, size in (("solo", "3x3"), ("solo", "2x3x"), ("pattern", "15x15"),
+             ("lightup", "10x10"), ("tents", "8x8")) for seed in (1, 2)]
+    for game, text in [*texts, ("pattern", "2x2:1/1/1/1"), ("lightup", "2x2:1c"), ("solo", "nonsense"), ("pattern", "2x1:1/1/1")]:
+        there, here = (told([*how, game, text]) for how in (["qemu-aarch64-static", made / "solve"], [bench.program, "solve", "--"]))
+        assert (there.returncode, there.stdout) == (here.returncode, here.stdout), f"{game} {text}: {there} {here}"

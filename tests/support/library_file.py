@@ -36,6 +36,7 @@ def symbols(tally, file, is_c):
     if is_c:
         return
     tally.same("versions of what is defined", {version for _, _, version in defined}, {VERSION})
+    tally.same("names of its inside", told(["nm", "--defined-only", file]), "")
     numbers = {version: tuple(map(int, version.removeprefix("GLIBC_").split("."))) for _, _, version in needed if version}
     tally.same("a newer glibc", {version for version, number in numbers.items() if number > OLDEST_GLIBC}, set())
     entries = told(["readelf", "-dW", file])

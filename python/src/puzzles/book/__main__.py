@@ -63,7 +63,7 @@ def build(asked: Asked, entries: Sequence[Entry], solve: Callable[[str, str], Li
         book.begin_right()
     listed.append(pages.Listed(texts["solutions"], "", len(book.pages) + 1))
     found = pages.add_solutions(book, entries)
-    book.fill(asked.multiple)
+    book.fill(asked.multiple, asked.least_pages)
     return book, found, listed
 
 

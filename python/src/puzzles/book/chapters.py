@@ -138,6 +138,20 @@ def of_file(games: Sequence[str], name: str) -> List[Chapter]:
         raise argparse.ArgumentTypeError(str(fault)) from None
 
 
+def by_size(one: Chapter) -> List[Chapter]:
+    """A chapter as it is; that of a file as one for each size of its puzzles, the smaller first, whose title has the size."""
+    sizes: Dict[Tuple[int, int], List[str]] = {}
+    for text in one.ids:
+        puzzle = read(one.game, text)
+        sizes.setdefault((puzzle.width, puzzle.height), []).append(text)
+    if len(sizes) < 2:
+        return [one]
+    seeds = dict(zip(one.ids, one.seeds))
+    return [dataclasses.replace(one, count=len(ids), ids=tuple(ids), seeds=tuple(seeds[text] for text in ids if text in seeds),
+                                title=f"{one.title}, {width}×{height}")
+            for (width, height), ids in sorted(sizes.items(), key=lambda item: (item[0][0] * item[0][1], item[0]))]
+
+
 def doubles(chapters: Sequence[Chapter]) -> Optional[str]:
     """A puzzle that stands in two files, or twice in a list of files; nothing if there is none."""
     told: Dict[Tuple[str, str], Chapter] = {}

@@ -6,7 +6,7 @@ import html
 import pathlib
 from typing import List, Optional
 
-from .chapters import MOST_TITLE, Chapter, chapter, doubles
+from .chapters import MOST_TITLE, Chapter, by_size, chapter, doubles
 from .layout import LEAST_CELL, Sheet, paper
 from .pages import FirstPage
 from .tables import last_seed
@@ -16,7 +16,7 @@ from .._work import REFUSED, Fault
 DEFAULT = ["solo:3x3:easy:18", "solo:3x3:medium:12", "solo:3x3:hard:12", "pattern:10x10:easy:8", "pattern:15x15:long:6",
            "pattern:20x20:long:4", "lightup:7x7:easy:6", "lightup:10x10:medium:6", "lightup:10x10:hard:6", "tents:8x8:easy:6",
            "tents:10x10:medium:8", "tents:10x10:hard:8"]
-MOST_GUTTER, MOST_MULTIPLE, MOST_FRONT = 30, 64, 20_000_000
+MOST_GUTTER, MOST_MULTIPLE, MOST_PAGES, MOST_FRONT = 30, 64, 2000, 20_000_000
 CELLS = 3.0, 20.0  # millimetres that the least cell may have
 PICTURES = {b"\x89PNG": "png", b"\xff\xd8\xff": "jpeg", b"<svg": "svg+xml", b"<?xml": "svg+xml"}  # by what they begin with
 USAGE = "%(prog)s [-h] [OPTION ..] BOOK.pdf [CHAPTER ..]"
@@ -35,6 +35,7 @@ class Asked:
     sheet: Sheet
     begins_right: bool
     multiple: int
+    least_pages: int
     svg: Optional[pathlib.Path]
     seed: int
     is_symmetric: bool
@@ -54,6 +55,8 @@ def options(about: Optional[str]) -> argparse.ArgumentParser:
     form.add_argument("--gutter", type=float, default=0, metavar="MM", help="more margin where the pages are bound (0)")
     form.add_argument("--right", action="store_true", help="the rules of a game, and the solutions, begin on a right page")
     form.add_argument("--multiple", type=int, default=1, metavar="N", help="blank pages at the end, for a multiple of N pages")
+    form.add_argument("--least-pages", type=int, default=1, metavar="N", help="blank pages at the end, for N pages at least")
+    form.add_argument("--by-size", action="store_true", help="a chapter of a file becomes one for each size of its puzzles")
     form.add_argument("--bare", action="store_true", help="neither grade nor ID beside a puzzle")
     form.add_argument("--large", action="store_true", help="large print: one puzzle a page, with cells of up to 22 mm")
     form.add_argument("--least-cell", type=float, default=LEAST_CELL, metavar="MM", help=f"of a puzzle ({LEAST_CELL:g})")
@@ -82,6 +85,8 @@ def words(about: Optional[str]) -> Asked:
         form.error("a seed is 0 to 9223372036854775807, a clock at most 86400 seconds, and the book's name ends in .pdf")
     if not 0 <= given.gutter <= MOST_GUTTER or not 1 <= given.multiple <= MOST_MULTIPLE:
         form.error(f"a gutter has at most {MOST_GUTTER} mm, and a multiple is 1 to {MOST_MULTIPLE}")
+    if not 1 <= given.least_pages <= MOST_PAGES:
+        form.error(f"the least pages are 1 to {MOST_PAGES}")
     texts = load(given.words)
     title: str = html.unescape(texts["title"]) if given.title is None else given.title
     if max(map(len, (title, given.subtitle, given.author))) > MOST_TITLE:
@@ -91,13 +96,15 @@ def words(about: Optional[str]) -> Asked:
     chapters: List[Chapter] = [one for some in given.chapters or map(chapter, DEFAULT) for one in some]
     if fault := doubles(chapters):
         form.error(fault)
+    if given.by_size:
+        chapters = [part for one in chapters for part in by_size(one)]
     games = list(dict.fromkeys(one.game for one in chapters))
     front = read_front(given.front) if given.front else ""
     picture = read_picture(given.picture) if given.picture else ""
     return Asked(book=given.book, chapters=sorted(chapters, key=lambda one: games.index(one.game)), games=games, title=title,
                  first_page=FirstPage(given.subtitle, given.author, picture), texts=texts, front=front,
                  sheet=Sheet(given.paper, given.gutter, given.bare, given.large, given.least_cell), begins_right=given.right,
-                 multiple=given.multiple, svg=given.svg, seed=seed, is_symmetric=given.symmetric, program=given.program,
+                 multiple=given.multiple, least_pages=given.least_pages, svg=given.svg, seed=seed, is_symmetric=given.symmetric, program=given.program,
                  seconds=given.seconds)
 
 

@@ -63,9 +63,9 @@ class Book:
         if len(self.pages) % 2:
             self.add("", has_number=False)
 
-    def fill(self, multiple: int) -> None:
-        """Adds blank pages, so that their number is a multiple."""
-        while len(self.pages) % multiple:
+    def fill(self, multiple: int, least: int) -> None:
+        """Adds blank pages, so that their number is a multiple, and not below another number."""
+        while len(self.pages) % multiple or len(self.pages) < least:
             self.add("", has_number=False)
 
     def html(self) -> str:

@@ -3,14 +3,13 @@ import re
 import xml.etree.ElementTree
 from typing import Dict, Iterator, List, Optional, Tuple
 
-from .found import Found
+from .found import Answer, Found, of_xml
 from ..ids import Puzzle, written
 
 SIZE = re.compile(r"(?i)(width|height)\s+(\d{1,9})\s*$")
 PARTS = {"rows": "height", "columns": "width"}
 CLUE = re.compile(r"[\d,.\s]*")
 Clues = List[List[int]]
-Answer = Tuple[Optional[str], Optional[str]]  # an ID, or what is wrong
 
 
 def id_of(columns: Clues, rows: Clues) -> str:
@@ -73,18 +72,7 @@ def write_non(puzzle: Puzzle) -> str:
 
 def read_pbn(text: str) -> Iterator[Found]:
     """The puzzles of the XML of webpbn.com."""
-    if "<!ENTITY" in text:
-        yield Found(1, None, "entities of its own")
-        return
-    try:
-        puzzles = list(xml.etree.ElementTree.fromstring(text).iter("puzzle"))
-    except xml.etree.ElementTree.ParseError as fault:
-        yield Found(1, None, f"no XML: {fault}")
-        return
-    if not puzzles:
-        yield Found(1, None, "there is no puzzle in it")
-    for number, puzzle in enumerate(puzzles, 1):
-        yield Found(number, *pbn_answer(puzzle), "pattern")
+    return of_xml(text, "puzzle", "pattern", pbn_answer)
 
 
 def pbn_answer(puzzle: xml.etree.ElementTree.Element) -> Answer:

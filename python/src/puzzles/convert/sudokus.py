@@ -4,7 +4,7 @@ import re
 import xml.etree.ElementTree
 from typing import Iterator, List, Optional, Tuple
 
-from .found import Found
+from .found import Answer, Found, of_xml
 from ..ids import Puzzle, Refused, written
 
 SIGNS = "123456789ABCDEFGHIJKLMNOPQRSTUV"  # of numbers, in a grid of up to 31
@@ -53,7 +53,7 @@ def is_ruler(line: str) -> bool:
     return bool(line.strip())
 
 
-def answer(cells: str) -> Tuple[Optional[str], Optional[str]]:
+def answer(cells: str) -> Answer:
     """The ID and None, or None and what is wrong."""
     side = math.isqrt(len(cells))
     block = math.isqrt(side)
@@ -85,19 +85,13 @@ def write_text(puzzle: Puzzle) -> str:
 
 def read_open(text: str) -> Iterator[Found]:
     """The puzzles of a file of OpenSudoku: XML with an element `game` each."""
-    if "<!ENTITY" in text:
-        yield Found(1, None, "entities of its own")
-        return
-    try:
-        games = [game.get("data", "") for game in xml.etree.ElementTree.fromstring(text).iter("game")]
-    except xml.etree.ElementTree.ParseError as fault:
-        yield Found(1, None, f"no XML: {fault}")
-        return
-    if not games:
-        yield Found(1, None, "there is no game in it")
-    for number, data in enumerate(games, 1):
-        cells = cells_of(data)
-        yield Found(number, *(answer(cells) if cells else (None, "no 81 cells")), "solo")
+    return of_xml(text, "game", "solo", open_answer)
+
+
+def open_answer(game: xml.etree.ElementTree.Element) -> Answer:
+    """The ID and None, or None and what is wrong."""
+    cells = cells_of(game.get("data", ""))
+    return answer(cells) if cells else (None, "no 81 cells")
 
 
 def cells_of(data: str) -> Optional[str]:
