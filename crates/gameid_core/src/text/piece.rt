@@ -77,7 +77,7 @@ impl Piece {
     }
 
     /// The bytes go into the text.
-    #[inline(never)]
+    #[inline(always)]
     pub(crate) fn flush(&mut self, text: &mut String) -> Result<(), AllocError>
         ensures added { OnOk result (string_bytes text.new ≡ string_bytes text.old ++ self.old) }
         ensures none { self.new ≡ [] }
