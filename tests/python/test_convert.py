@@ -57,6 +57,8 @@ def test_sudokus(bench):
     files = [CELLS, CELLS.replace(".", "0"), rows, f"#A somebody\n[Puzzle]\n{rows}", "\n".join(RULED), "\ufeff" + CELLS]
     for text in files:
         assert taken(bench, "sudoku", text) == ([SOLO], []), f"{text}: {taken(bench, 'sudoku', text)}"
+    text = "".join(f"Grid {number:02}\n{rows.replace('.', '0')}\n" for number in range(1, 4))
+    assert taken(bench, "sudoku", text) == ([SOLO] * 3, []), "the file of Project Euler"
     text = f"{CELLS}\n{CELLS[:-1]}\n{CELLS[:-1]}Z\n# of four by four\n1...............\n{CELLS}\n"
     found, told = taken(bench, "sudoku", text, 2)
     assert found == [SOLO, "2x2:1o", SOLO], f"{found}"

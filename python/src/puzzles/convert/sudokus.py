@@ -11,7 +11,7 @@ SIGNS = "123456789ABCDEFGHIJKLMNOPQRSTUV"  # of numbers, in a grid of up to 31
 BLANKS = ".0*_?xX"
 SMALLEST = 16  # signs of a grid of four by four, which may be a line
 RULER = re.compile(r"[|\s+-]")
-COMMENT = re.compile(r"\s*(?:#|\[(?!Puzzle))", re.I)
+COMMENT = re.compile(r"\s*(?:#|\[(?!Puzzle)|Grid \d+\s*$)", re.I)  # the last one: Project Euler's heads
 TITLE, STATE = re.compile(r"\s*\[Puzzle\]", re.I), re.compile(r"\s*\[State\]", re.I)  # the second: how far a player came
 HEAD = re.compile(r"[\"\w ]*[A-Za-z][\"\w ]*([,;][\"\w ]+)+\s*")  # of a table, on its first line
 FIELD = re.compile(r"(?:^|[\s,;:|\"])([0-9._*?]{81}|[0-9A-Ga-g._*?]{256})(?=$|[\s,;:|\"#])")  # of a table, or before a remark
