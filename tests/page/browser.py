@@ -35,11 +35,12 @@ def opened(url, tally):
         page = Page(url, profile)
         try:
             page.size(*DESK)
-            yield page
-            said = [line["message"] for line in page.driver.get_log("browser")]
-            tally.same(f"what the browser complains of at {url}", [line for line in said if "Failed to load" not in line], [])
-        except WebDriverException as fault:
-            tally.same(f"the browser at {url}", f"{type(fault).__name__}: {fault.msg}", "no fault")
+            try:
+                yield page
+                said = [line["message"] for line in page.driver.get_log("browser")]
+                tally.same(f"what the browser complains of at {url}", [line for line in said if "Failed to load" not in line], [])
+            except WebDriverException as fault:
+                tally.same(f"the browser at {url}", f"{type(fault).__name__}: {fault.msg}", "no fault")
         finally:
             page.driver.quit()
 

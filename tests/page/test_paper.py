@@ -1,4 +1,6 @@
 """The page on paper: the pictures in what Chromium prints are counted, so that no tree, tent or bulb is lost there."""
+import types
+
 import pytest
 
 try:
@@ -31,3 +33,18 @@ def test_pictures(server, game, size, more):
             assert not tally.faults, "\n".join(tally.faults)
             return
     pytest.skip("no chromium that stays up")
+
+
+def test_a_browser_that_does_not_begin(monkeypatch):
+    class Broken:
+        driver = types.SimpleNamespace(quit=lambda: None)
+
+        def __init__(self, url, profile):
+            pass
+
+        def size(self, *sides):
+            raise WebDriverException("gone")
+
+    monkeypatch.setattr(browser, "Page", Broken)
+    with pytest.raises(WebDriverException), browser.opened("http://127.0.0.1", Tally()):
+        pass
