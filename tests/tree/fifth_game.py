@@ -4,7 +4,7 @@
 usage: fifth_game.py [--write]
 
 Prints each step of the table with its files and lines, and what isn't so in the document; the exit status is 1 if anything is.
-It has to name each file of commands and puzzles_c, beside those of Tents alone, in which Tents have a case.
+It has to name each file of the crates ARMS, beside those of Tents alone, in which Tents have a case.
 With --write the document gets the numbers.
 """
 import argparse
@@ -21,24 +21,26 @@ STEPS = {
     "3": ("gameid_core/src/tents/id.rt", "gameid_core/specs/TentsText.antt", "gameid_core/proofs/Tents*.antt",
           "gameid_core/proofs/tents/id/**/*"),
     "4": ("gameid_core/src/tents/grids.rt", "gameid_core/proofs/tents/grids/**/*"),
-    "5": ("fields_core/specs/Tents.antt", "fields_core/specs/TentSolutions.antt"),
-    "6": ("fields_core/src/tents.rt", "fields_core/src/tents/cells.rt", "fields_core/src/tents/houses.rt",
-          "fields_core/src/tents/rules.rt", "fields_core/src/tents/tent_house.rt", "fields_core/specs/TentHouses.antt",
-          "fields_core/specs/TentTrees.antt", "fields_core/proofs/tents/houses/**/*", "fields_core/proofs/tents/rules/**/*",
-          "fields_core/proofs/TentCounting.antt"),
-    "7": ("fields_core/src/planes/tents.rt", "fields_core/src/planes/tents/*", "fields_core/specs/TentWaits.antt",
-          "fields_core/proofs/planes/tents/**/*", "fields_core/proofs/TentCompleting.antt", "fields_core/proofs/TentLines.antt",
-          "fields_core/proofs/TentSquareVisits.antt", "fields_core/proofs/TentTouching.antt", "fields_core/proofs/TentTree*.antt", "fields_core/proofs/TentWaits.antt"),
-    "8": ("fields_core/src/tents/check.rt", "fields_core/src/tents/fault.rt", "fields_core/src/tents/pairs.rt",
+    "5": ("fields_core/src/tents.rt", "fields_core/src/tents/fault.rt", "fields_core/specs/Tents.antt",
+          "fields_core/specs/TentSolutions.antt"),
+    "6": ("fields_core/src/tents/cells.rt", "fields_core/src/tents/check.rt", "fields_core/src/tents/pairs.rt",
           "fields_core/src/tents/touch.rt", "fields_core/specs/TentPairs.antt", "fields_core/specs/TentTouching.antt",
           "fields_core/proofs/tents/check/**/*", "fields_core/proofs/tents/pairs/**/*", "fields_core/proofs/tents/touch/**/*",
           "fields_core/proofs/TentRuleLemmas.antt"),
+    "7": ("fields_core/src/tents/houses.rt", "fields_core/src/tents/rules.rt", "fields_core/src/tents/tent_house.rt",
+          "fields_core/specs/TentHouses.antt", "fields_core/proofs/tents/houses/**/*",
+          "fields_core/proofs/tents/rules/TentsPuzzleCountGame/**/*", "fields_core/proofs/TentCounting.antt"),
+    "8": ("fields_core/src/planes/tents.rt", "fields_core/src/planes/tents/*", "fields_core/specs/TentTrees.antt",
+          "fields_core/specs/TentWaits.antt", "fields_core/proofs/planes/tents/**/*",
+          "fields_core/proofs/tents/rules/TentsPuzzleGridGame/**/*", "fields_core/proofs/tents/rules/TentsPuzzlePlaneGame/**/*",
+          "fields_core/proofs/TentCompleting.antt", "fields_core/proofs/TentLines.antt", "fields_core/proofs/TentSquareVisits.antt",
+          "fields_core/proofs/TentTouching.antt", "fields_core/proofs/TentTree*.antt", "fields_core/proofs/TentWaits.antt"),
     "9": ("maker_core/src/tents.rt", "maker_core/src/tents/*", "maker_core/specs/TentMaking.antt", "maker_core/specs/TentSteps.antt",
           "maker_core/proofs/TentsSolved.antt", "maker_core/proofs/tents/**/*",
           "maker_core/proofs/laws/fillings_of_tents_are_solutions/*"),
     "10": ("commands/src/games/tents.rt", "commands/specs/TentsFacts.antt", "commands/proofs/games/tents/**/*"),
 }
-ARMS = ("commands", "puzzles_c")
+ARMS = ("core_tests", "commands", "puzzles", "puzzles_c")
 CASE = re.compile(r"(?<![A-Za-z])[Tt]ents?(?![a-z])|(?<![A-Za-z])Tents?[A-Z]|[a-z]Tents")
 NO_CASE = re.compile(r" *(--|//|(pub(\(crate\))? |ghost |unfoldable )*use |(pub(\(crate\))? )?mod )")
 
