@@ -15,7 +15,8 @@ pub use Rattle.gameid_core.specs.TentsText.{tent_hides, tents_cell}
 pub use Rattle.gameid_core.specs.SoloText.{solo_cell, solo_extent}
 pub use Rattle.gameid_core.specs.PatternText.{pattern_cell}
 pub use Rattle.gameid_core.specs.LightText.{light_hides, light_cell}
-pub use Rattle.gameid_core.specs.Head.{SizeRead, extent_of, in_range, max_id, size_of}
+pub use Rattle.gameid_core.specs.Head.{extent_of, in_range, max_id, size_of}
+pub use Rattle.gameid_core.specs.declared.id.head.SizeRead.{SizeRead}
 pub use Rattle.gameid_core.specs.IdTexts.{HasOneReading}
 pub use Rattle.gameid_core.specs.Puzzles.{IsPattern, IsSolo, IsTents, Light, Pattern, Solo, Tents, solo_n}
 pub use Rattle.gameid_core.specs.declared.id.fault.IdFault.{IdFault}
